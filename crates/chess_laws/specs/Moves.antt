@@ -1,9 +1,12 @@
--- The legal moves of a position, in order.
+-- The legal moves of a position, in order, and the moves that are legal on a board.
 use Rattle.std.specs.Prelude.{◌≡◌, ℕ, ◌+◌, ◌*◌, ◌<◌, List, Option, Some, None, length, All, AllPairs, Contains}
 use Rattle.cell_core.specs.declared.man.Kind.{Kind}
 use Rattle.cell_core.specs.declared.step.Move.{Move}
+use Rattle.cell_core.specs.Board.{Men}
 use Rattle.cell_core.specs.Man.{kind_number}
+use Rattle.cell_core.specs.declared.man.Colour.{Colour}
 use Rattle.chess_laws.specs.declared.setup.Setup.{Setup}
+use Rattle.chess_laws.specs.Position.{Sound}
 use Rattle.chess_laws.specs.Step.{Legal}
 
 -- A legal move (FIDE Laws, Article 3.10.1) other than the null move, which stays on its square.
@@ -36,3 +39,11 @@ pub record HasMoreMoves (p : Setup) (n : ℕ) : Type 0 where
   pub only : All (IsMove p) moves
   pub in_order : Ascends moves
   pub many : n < length moves
+
+-- The move is legal from some position of this board and side to move (FIDE Laws, Article 3.10.1).
+pub record IsFrom (men : Men) (side : Colour) (m : Move) : Type 0 where
+  pub position : Setup
+  pub sound : Sound position
+  pub board : position.board ≡ men
+  pub to_move : position.side ≡ side
+  pub legal : Legal position m

@@ -1,5 +1,5 @@
 -- What bytes are as a record, as an answer that is computed and in words.
-use Rattle.std.proofs.Common.{◌≡◌, ℕ, zero, suc, ◌+◌, ◌<◌, ◌≤◌, ◌==◌, ◌%◌, inl, inr, ◌≢◌, true, false, nat_le, nat_lt, List, [], ◌∷◌, ◌++◌, Option, Some, None, Result, Ok, Err, length, drop, take, refl, sym, ap, subst, ◌∙◌, arith, append_assoc, length-append, length-drop}
+use Rattle.std.proofs.Common.{◌≡◌, ℕ, zero, suc, ◌+◌, ◌<◌, ◌≤◌, ◌==◌, ◌%◌, ◌⊎◌, inl, inr, ◌≢◌, true, false, nat_le, nat_lt, List, [], ◌∷◌, ◌++◌, Option, Some, None, Result, Ok, Err, length, drop, take, refl, sym, ap, subst, ◌∙◌, arith, append_assoc, length-append, length-drop}
 use Rattle.std.proofs.Math.Seq.{take-add, take-length}
 use Rattle.std.proofs.lemmas.Bool.{and_parts, cases_Bool, eqb-true, eqb-false, leb-true, ltb-true, ltb-false}
 use Rattle.std.proofs.lemmas.List.Elements.{All-nil, All-cons}
@@ -19,7 +19,7 @@ use Rattle.game_codec.specs.Fault.{Breaks, IsBroken, IsRecordFault}
 use Rattle.game_codec.specs.Flat.{IsRead}
 use Rattle.game_codec.specs.Moves.{SpellsMoves, Upto, here, past_move, past_nag, past_comment, past_variation, inside, BreaksMoves}
 use Rattle.game_codec.specs.Place.{Place, Takes, FaultAt, after_comment, after_move, beginning, nag_at, token_at, variation_of}
-use Rattle.game_codec.specs.Record.{IsRecord, IsSpelled}
+use Rattle.game_codec.specs.Record.{IsRecord, IsSomeRecord, IsSpelled}
 use Rattle.game_codec.specs.RecordAnswer.{Broken, game_at, moves_at, place_of, record_answer, start_at, tags_at, text_at, texts_at, with_texts}
 use Rattle.game_codec.specs.Start.{BeginsStart, BreaksStart}
 use Rattle.game_codec.specs.Steps.{blamed}
@@ -514,3 +514,11 @@ fault-one bytes fault other f g =
 pub record-unbroken : (bytes : List ℕ) (tags : List Tag) (game : GameTree) (fault : RecordFault) → IsRecord bytes tags game → IsRecordFault bytes fault → ⊥
 record-unbroken bytes tags game fault r f =
     let same : ◌≡◌ {A = Result (List Tag × GameTree) RecordFault} (Ok (tags, game)) (Err fault) = sym r.answer ∙ f.answer in cc
+
+answered : (bytes : List ℕ) (answer : Result (List Tag × GameTree) RecordFault) → record_answer bytes ≡ answer
+    → IsSomeRecord bytes ⊎ ((fault : RecordFault) × IsRecordFault bytes fault)
+answered bytes (Ok (tags, game)) is = inl (tags, (game, record { answer = is }))
+answered bytes (Err fault) is = inr (fault, record { answer = is })
+
+pub either : (bytes : List ℕ) → IsSomeRecord bytes ⊎ ((fault : RecordFault) × IsRecordFault bytes fault)
+either bytes = answered bytes (record_answer bytes) refl

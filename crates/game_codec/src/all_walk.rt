@@ -3,6 +3,7 @@ ghost use Rattle.std.specs.Prelude.{◌≡◌, ◌+◌, ◌<◌, ◌≤◌, ◌=
 ghost use Rattle.game_tree.specs.Game.{GameTree};
 ghost use Rattle.game_tree.specs.declared.head.Tag.{Tag as TagValue};
 ghost use Rattle.move_codec.specs.Packed.{Decodes};
+ghost use Rattle.game_codec.specs.Fault.{IsRecordFault};
 ghost use Rattle.game_codec.specs.Nests.{IsCalmBehind};
 ghost use Rattle.game_codec.specs.Place.{IsMoveDue};
 ghost use Rattle.game_codec.specs.Record.{IsRecord, IsSomeRecord};
@@ -45,8 +46,8 @@ impl<'a> Model for AllWalk<'a> {
 }
 
 impl<'a> AllWalk<'a> {
-    /// The walk at the start of a record's main line. A record has fewer than 2^32 bytes. The fault comes only where the
-    /// bytes are no record.
+    /// The walk at the start of a record's main line. A record has fewer than 2^32 bytes. The fault is the first of bytes that are
+    /// no record.
     pub fn new(bytes: &'a [u8]) -> Result<AllWalk<'a>, RecordFault>
         requires few { length bytes.now < 2 ^ 32 }
         ensures bytes { IfOk result (λ walk. walk.bytes ≡ bytes.now) }
@@ -55,6 +56,8 @@ impl<'a> AllWalk<'a> {
         ensures main { IfOk result (λ walk. IsTrue walk.on_main) }
         ensures start { IfOk result (λ walk. (tags : List TagValue) (game : GameTree) → IsRecord bytes.now tags game → walk.position ≡ game.start) }
         ensures fault { IfErr result (λ _. IsSomeRecord bytes.now → ⊥) }
+        // Nothing was passed unread, so it is the first fault of the bytes.
+        ensures first { IfErr result (IsRecordFault bytes.now) }
     {
         match begin(bytes) {
             Ok(read) => Ok(AllWalk {

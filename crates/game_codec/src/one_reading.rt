@@ -1,8 +1,8 @@
 //! Bytes say one thing.
-ghost use Rattle.std.specs.Prelude.{◌≡◌, ◌<◌, ◌↔◌, All, List, Ok, Some, ℕ};
+ghost use Rattle.std.specs.Prelude.{◌≡◌, ◌<◌, ◌↔◌, ◌⊎◌, All, List, Ok, Some, ℕ};
 ghost use Rattle.game_tree.specs.Game.{GameTree};
 ghost use Rattle.game_tree.specs.declared.head.Tag.{Tag as TagValue};
-ghost use Rattle.game_codec.specs.Record.{IsRecord, IsSpelled};
+ghost use Rattle.game_codec.specs.Record.{IsRecord, IsSomeRecord, IsSpelled};
 ghost use Rattle.game_codec.specs.Fault.{IsBroken, IsRecordFault};
 ghost use Rattle.game_codec.specs.TagReading.{tag_at};
 ghost use Rattle.game_codec.specs.TagSpelling.{SpellsTag};
@@ -16,6 +16,7 @@ pub fn bytes_have_one_reading()
     ensures one_fault { (bytes : List ℕ) (fault other : Fault) → IsRecordFault bytes fault → IsRecordFault bytes other → fault ≡ other }
     ensures not_both { (bytes : List ℕ) (tags : List TagValue) (game : GameTree) (fault : Fault)
         → IsRecord bytes tags game → IsRecordFault bytes fault → ⊥ }
+    ensures one_of_both { (bytes : List ℕ) → IsSomeRecord bytes ⊎ ((fault : Fault) × IsRecordFault bytes fault) }
     ensures spelled { (bytes : List ℕ) (tags : List TagValue) (game : GameTree) → IsRecord bytes tags game ↔ IsSpelled bytes tags game }
     ensures broken { (bytes : List ℕ) (fault : Fault) → IsRecordFault bytes fault ↔ IsBroken bytes fault }
     ensures tag { (bytes : List ℕ) (tag : TagValue) (later : List ℕ) → All (λ byte. byte < 256) bytes

@@ -15,7 +15,8 @@ use sig_index::{FetchError, Games};
 
 /// Leaves in the filter what its entries become by a search. The filter has one entry per game, and `buf` has at least 131,072 bytes. A game
 /// is read where `op` looks at it and its first matching ply is not known unread, and so many bytes count as asked. After an error the games
-/// before the refused one have their new entries, and the others the old.
+/// from one on have their old entries, and where the files tell what they hold those before it their new ones; if the error names a game, it
+/// is that one.
 pub fn search<Q: Question, G: Games, F: Files>(
     games: &G,
     q: &mut Q,

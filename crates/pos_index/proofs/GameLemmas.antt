@@ -18,9 +18,10 @@ use Rattle.game_tree.specs.Replay.{main_moves, next_at, plies_of, position_at}
 use Rattle.game_tree.specs.Tree.{Played, line_of, moves_of}
 use Rattle.sig_index.proofs.PrefixLemmas.{moves_at}
 use Rattle.sig_index.proofs.RecordLemmas.{no_next}
-use Rattle.pos_index.specs.Hits.{IsFrom, IsLegalPlace, IsRow, Place, place_at, places_of}
+use Rattle.pos_index.specs.Hits.{IsLegalOn, IsLegalPlace, IsRow, Place, place_at, places_of}
 use Rattle.pos_index.specs.Keeping.{AreAlike, HasPut, HasPutAtMost, IsPlaceOn, first_places, next_put, place_in, row_in, with_row}
 use Rattle.pos_index.proofs.IndexLemmas.{length-range, places_few}
+use Rattle.pos_index.proofs.LegalMoves.{legal_on}
 
 range_next : (a n : ℕ) → range_with_len a (suc n) ≡ range_with_len a n ++ (a + n) ∷ []
 range_next a zero = ap (λ (k : ℕ). k ∷ []) (let same : a ≡ a + 0 = omega arith in same)
@@ -341,19 +342,16 @@ got_none xs line i ply same at le = (λ j. slice_get (sym same j) (sym at j)) �
 pub legal_place : (p q : Setup) (board : Packed) (ply : ℕ) (next : Option Move) → Sound p → board ≡ packed_of p.board p.side → ((m : Move) → next ≡ Some m → Step p m q)
     → IsLegalPlace (record { board = board; ply = ply; next = next })
 legal_place p q board ply None sound is steps = tt
-legal_place p q board ply (Some m) sound is steps = record { position = p; sound = sound; stands = sym is; legal = (q, steps m refl) }
+legal_place p q board ply (Some m) sound is steps = legal_on p board m sound is (q, steps m refl)
 
 place_legal : (game : GameTree) → Sound game.start → IsLegalGame game → (k : ℕ) → IsLegalPlace (place_at game k)
 place_legal game sound legal k = by (next_at game k) refl
   where
-    by : (next : Option Move) → next_at game k ≡ next → IfSome next (IsFrom (place_at game k).board)
+    by : (next : Option Move) → next_at game k ≡ next → IfSome next (IsLegalOn (place_at game k).board)
     by None is = tt
-    by (Some m) is = record {
-      position = position_at game k;
-      sound = (moves_at game k sound legal (omega (arith, next_within game k m is))).sound;
-      stands = refl;
-      legal = (position_at game (k + 1), legal_next game (position_at game k) k m legal refl is);
-    }
+    by (Some m) is =
+        legal_on (position_at game k) (place_at game k).board m (moves_at game k sound legal (omega (arith, next_within game k m is))).sound refl
+        (position_at game (k + 1), legal_next game (position_at game k) k m legal refl is)
 
 all_legal : (game : GameTree) → Sound game.start → IsLegalGame game → (plies : List ℕ) → All IsLegalPlace (map (place_at game) plies)
 all_legal game sound legal [] = All-nil IsLegalPlace

@@ -4,11 +4,11 @@ use Rattle.std.specs.Prelude.{All, IfSome}
 use Rattle.std.proofs.lemmas.List.Elements.{All-append, All-cons, All-head, All-nil, All-tail}
 use Rattle.cell_core.specs.Packed.{Packed}
 use Rattle.pos_index.specs.declared.hit.Hit.{Hit}
-use Rattle.pos_index.specs.Hits.{IsFrom, IsLegalPlace, IsRow, Place, hits_from, hits_in, same_packed}
+use Rattle.pos_index.specs.Hits.{IsLegalOn, IsLegalPlace, IsRow, Place, hits_from, hits_in, same_packed}
 use Rattle.pos_index.proofs.KeyLemmas.{same_packed-Decides}
 
 abbrev LegalHit : Packed → Hit → Type 0
-LegalHit board hit = IfSome hit.next (IsFrom board)
+LegalHit board hit = IfSome hit.next (IsLegalOn board)
 
 row_legal : (board : Packed) (game : ℕ) (row : List Place) → All IsLegalPlace row → All (LegalHit board) (hits_in board game row)
 row_legal board game [] legal = All-nil (LegalHit board)

@@ -8,4 +8,5 @@ mod GameLemmas
 mod IndexLemmas
 mod BuildLemmas
 mod LegalHits
+pub mod LegalMoves
 mod StandingLemmas

@@ -4,10 +4,8 @@ use Rattle.std.specs.Cmp.Lexicographic.{pointwise}
 use Rattle.std.specs.List.{find, range_with_len}
 use Rattle.cell_core.specs.declared.step.Move.{Move}
 use Rattle.cell_core.specs.Man.{same_colour}
-use Rattle.chess_laws.specs.declared.setup.Setup.{Setup}
-use Rattle.chess_laws.specs.Position.{Sound}
-use Rattle.chess_laws.specs.Step.{Legal}
-use Rattle.cell_core.specs.Packed.{Packed, packed_of}
+use Rattle.cell_core.specs.Packed.{Packed, men_of, packed_of}
+use Rattle.chess_laws.specs.Moves.{IsFrom}
 use Rattle.game_tree.specs.Game.{GameTree}
 use Rattle.game_tree.specs.Replay.{next_at, plies_of, position_at}
 use Rattle.pos_index.specs.declared.hit.Hit.{Hit}
@@ -26,16 +24,12 @@ place_at game ply = record {
   next = next_at game ply;
 }
 
--- A move is legal in some position that keeps the rules and has this board and side to move; and so is the move after a place, if there
--- is one.
-pub record IsFrom (board : Packed) (m : Move) : Type 0 where
-  pub position : Setup
-  pub sound : Sound position
-  pub stands : packed_of position.board position.side ≡ board
-  pub legal : Legal position m
+-- A move is legal from some position of a packed board and its side to move; and so is the move after a place, if there is one.
+abbrev pub IsLegalOn : Packed → Move → Type 0
+IsLegalOn board m = IsFrom (men_of board.cells) board.side m
 
 abbrev pub IsLegalPlace : Place → Type 0
-IsLegalPlace place = IfSome place.next (IsFrom place.board)
+IsLegalPlace place = IfSome place.next (IsLegalOn place.board)
 
 -- The places of a game from ply 0 to the smaller of the depth and its plies.
 abbrev pub places_of : ℕ → GameTree → List Place

@@ -1,7 +1,7 @@
 //! The hits on one board, asked for by the games.
 ghost use Rattle.std.specs.Prelude.{◌≡◌, ◌≤◌, ◌<◌, ◌++◌, ℕ, All, List, length, IfSome, IsTrue};
 ghost use Rattle.cell_core.specs.Packed.{Packed};
-ghost use Rattle.pos_index.specs.Hits.{IsFrom, Place, first_on, hits_from, places_in};
+ghost use Rattle.pos_index.specs.Hits.{IsLegalOn, Place, first_on, hits_from, places_in};
 ghost use Rattle.pos_index.specs.declared.hit.Hit.{Hit as Standing};
 
 use crate::hit::Hit;
@@ -43,7 +43,7 @@ impl<'a> BoardHits<'a> {
     pub fn first(&mut self, game: u32) -> Option<(u32, Option<Move>)>
         ensures same { self.new ≡ self.old }
         ensures first { (board : Packed) (rows : List (List Place)) → self.old ≡ hits_from board 0 rows → result ≡ first_on board (places_in rows game) }
-        ensures legal { (board : Packed) → All (λ hit. IfSome hit.next (IsFrom board)) self.old → IfSome result (λ first. IfSome first.1 (IsFrom board)) }
+        ensures legal { (board : Packed) → All (λ hit. IfSome hit.next (IsLegalOn board)) self.old → IfSome result (λ first. IfSome first.1 (IsLegalOn board)) }
     {
         let begin = begin_of(self.hits, self.next, game);
         self.next = begin;

@@ -45,7 +45,7 @@ impl PosIndex {
     ghost use Rattle.sig_index.specs.Games.{AreWithin, Holds};
     ghost use Rattle.pos_index.specs.Asking.{price};
     ghost use Rattle.pos_index.specs.Causes.{HasBuildCause};
-    ghost use Rattle.pos_index.specs.Hits.{Fits, Indexes, IsFrom, entries_of, first_on, hits_from, hits_of, places_in, places_of};
+    ghost use Rattle.pos_index.specs.Hits.{Fits, Indexes, IsLegalOn, entries_of, first_on, hits_from, hits_of, places_in, places_of};
 
     /// The index of the games of a base, up to a depth of at most 40: their records are read, each once, and so many bytes count as asked.
     /// `buf` has at least 131,072 bytes.
@@ -115,7 +115,7 @@ impl PosIndex {
         ensures hits { result.now ≡ hits_from p.now 0 self.now.rows }
         ensures indexed { (games : List (Option GameTree)) → Indexes self.now games → result.now ≡ hits_of self.now.depth games p.now }
         // Also where the records that were read are of no games.
-        ensures legal { All (λ hit. IfSome hit.next (IsFrom p.now)) result.now }
+        ensures legal { All (λ hit. IfSome hit.next (IsLegalOn p.now)) result.now }
     {
         self.places.find(p)
     }
@@ -126,7 +126,7 @@ impl PosIndex {
         ensures first { result ≡ first_on p.now (places_in self.now.rows i) }
         ensures indexed { (games : List (Option GameTree)) (game : GameTree) → Indexes self.now games → slice_get games i ≡ Some (Some game) → result ≡ first_on p.now (places_of self.now.depth game) }
         // Also where the records that were read are of no games.
-        ensures legal { IfSome result (λ first. IfSome first.1 (IsFrom p.now)) }
+        ensures legal { IfSome result (λ first. IfSome first.1 (IsLegalOn p.now)) }
     {
         BoardHits::new(self.find(p)).first(i)
     }

@@ -15,7 +15,8 @@ use Rattle.game_tree.specs.Replay.{next_at, plies_of, position_at}
 use Rattle.game_tree.specs.Tree.{Line, Played, line_of, moves_of}
 use Rattle.game_tree.proofs.LegalLemmas.{IsLegalGame-next}
 use Rattle.game_tree.proofs.TreeLemmas.{length-moves_of}
-use Rattle.pos_index.specs.Hits.{IsFrom}
+use Rattle.pos_index.specs.Hits.{IsLegalOn}
+use Rattle.pos_index.proofs.LegalMoves.{legal_on}
 use Rattle.sig_index.specs.declared.pos_query.PosQuery.{PosQuery}
 use Rattle.pos_search.specs.InMemory.{Seeks, next_of}
 use Rattle.pos_search.specs.Matching.{matches, matches_at}
@@ -117,5 +118,5 @@ walked-ended board game ply p so not last query seeks =
     (no_hit query game (none_at_end query game ply (so.before query seeks) fails last) ∙ plain_hit query game seeks.main)
 
 -- The move is legal there.
-pub legal_from : (board : Packed) (p q : Setup) (m : Move) → Sound p → Stands board p → Step p m q → IsFrom board m
-legal_from board p q m sound here step = record { position = p; sound = sound; stands = sym here; legal = (q, step) }
+pub legal_from : (board : Packed) (p q : Setup) (m : Move) → Sound p → Stands board p → Step p m q → IsLegalOn board m
+legal_from board p q m sound here step = legal_on p board m sound here (q, step)

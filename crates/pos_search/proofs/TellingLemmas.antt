@@ -14,7 +14,7 @@ use Rattle.chess_laws.proofs.MovedKings.{Sound-after}
 use Rattle.game_tree.specs.Game.{GameTree}
 use Rattle.game_tree.specs.Legal.{IsLegalGame}
 use Rattle.game_tree.specs.Replay.{next_at, plies_of, position_at}
-use Rattle.pos_index.specs.Hits.{Index, IndexesAll, IsFrom, Place, first_on, hits_from, place_at, places_in, places_of, ply_and_next, row_of, rows_told, same_packed}
+use Rattle.pos_index.specs.Hits.{Index, IndexesAll, IsLegalOn, Place, first_on, hits_from, place_at, places_in, places_of, ply_and_next, row_of, rows_told, same_packed}
 use Rattle.pos_index.specs.declared.hit.Hit.{Hit}
 use Rattle.pos_index.proofs.KeyLemmas.{same_packed-Decides}
 use Rattle.sig_index.specs.Games.{Holds}
@@ -222,13 +222,13 @@ first_hit query rows hits i first is firsts = elim (cases_Bool (is_exact query.m
 
 -- ---- the move after a match
 
-legal_move : (board : Packed) (next : Option Move) (m : Move) → next ≡ Some m → IfSome next (IsFrom board) → IsFrom board m
+legal_move : (board : Packed) (next : Option Move) (m : Move) → next ≡ Some m → IfSome next (IsLegalOn board) → IsLegalOn board m
 legal_move board None m is from = absurd (cc)
 legal_move board (Some n) m is from =
     let same : n ≡ m = cc in
-    subst (IsFrom board) same from
+    subst (IsLegalOn board) same from
 
-pub legal_first : (query : PosQuery) (hit : Option (ℕ × Option Move)) → IfSome hit (λ first. IfSome first.1 (IsFrom (packed_of query.board query.side)))
+pub legal_first : (query : PosQuery) (hit : Option (ℕ × Option Move)) → IfSome hit (λ first. IfSome first.1 (IsLegalOn (packed_of query.board query.side)))
     → IsLegalFrom query hit
 legal_first query None from ply m exact same = absurd (cc)
 legal_first query (Some hit) from ply m exact same =

@@ -17,7 +17,7 @@ use Rattle.chess_laws.specs.declared.setup.Setup.{Setup}
 use Rattle.game_codec.specs.Visits.{places}
 use Rattle.game_tree.specs.Game.{GameTree}
 use Rattle.game_tree.specs.Replay.{next_at, plies_of, position_at}
-use Rattle.pos_index.specs.Hits.{IsFrom}
+use Rattle.pos_index.specs.Hits.{IsLegalOn}
 use Rattle.sig_index.specs.declared.pos_query.Mode.{Mode}
 use Rattle.sig_index.specs.declared.pos_query.Mode.TheVariants.{Exact, Pawns, Files, Material}
 use Rattle.sig_index.specs.declared.pos_query.PosQuery.{PosQuery}
@@ -120,4 +120,4 @@ firsts_of query games = map (first_of query) games
 
 -- The move after a match of an exact search is legal in some position that keeps the rules, with the query's board and side to move.
 abbrev pub IsLegalFrom : PosQuery → Option (ℕ × Option Move) → Type 0
-IsLegalFrom query hit = (ply : ℕ) (m : Move) → query.mode ≡ Exact → hit ≡ Some (ply, Some m) → IsFrom (packed_of query.board query.side) m
+IsLegalFrom query hit = (ply : ℕ) (m : Move) → query.mode ≡ Exact → hit ≡ Some (ply, Some m) → IsLegalOn (packed_of query.board query.side) m

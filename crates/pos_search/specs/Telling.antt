@@ -4,7 +4,7 @@ use Rattle.cell_core.specs.Packed.{packed_of}
 use Rattle.cell_core.specs.declared.step.Move.{Move}
 use Rattle.game_search.specs.Questions.{Unread}
 use Rattle.game_tree.specs.Game.{GameTree}
-use Rattle.pos_index.specs.Hits.{IsFrom, Place, hits_from, places_in}
+use Rattle.pos_index.specs.Hits.{IsLegalOn, Place, hits_from, places_in}
 use Rattle.pos_index.specs.declared.hit.Hit.{Hit}
 use Rattle.sig_index.specs.declared.pos_query.PosQuery.{PosQuery}
 use Rattle.sig_index.specs.declared.signature.Sig.{Sig}
@@ -17,7 +17,7 @@ hits_told query rows = if is_exact query.mode then hits_from (packed_of query.bo
 
 -- The move after each hit on the board of a query is legal there, if there is one.
 abbrev pub AreLegalHits : PosQuery → List Hit → Type 0
-AreLegalHits query hits = All (λ (hit : Hit). IfSome hit.next (IsFrom (packed_of query.board query.side))) hits
+AreLegalHits query hits = All (λ (hit : Hit). IfSome hit.next (IsLegalOn (packed_of query.board query.side))) hits
 
 -- What the index tells of a game is its hit.
 abbrev pub TellsHit : PosQuery → List Place → GameTree → Type 0

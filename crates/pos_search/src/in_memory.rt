@@ -3,7 +3,7 @@ ghost use Rattle.std.specs.Prelude.{◌≡◌, ◌↔◌, IfSome, IsTrue};
 ghost use Rattle.cell_core.specs.Packed.{packed_of};
 ghost use Rattle.chess_laws.specs.Position.{Sound};
 ghost use Rattle.game_tree.specs.Legal.{IsLegalGame};
-ghost use Rattle.pos_index.specs.Hits.{IsFrom};
+ghost use Rattle.pos_index.specs.Hits.{IsLegalOn};
 ghost use Rattle.sig_index.specs.declared.pos_query.PosQuery.{PosQuery as Query};
 ghost use Rattle.pos_search.specs.InMemory.{Seeks, next_of};
 
@@ -17,7 +17,7 @@ pub fn next_in(board: &PackedBoard, game: &Game) -> Option<Option<Move>>
     requires legal { IsLegalGame game.now }
     ensures next { (query : Query) → Seeks query board.now → result ≡ next_of query game.now }
     // The move is legal in a position that has the board and the side.
-    ensures legal { IfSome result (λ next. IfSome next (IsFrom board.now)) }
+    ensures legal { IfSome result (λ next. IfSome next (IsLegalOn board.now)) }
 {
     let mut position = game.start;
     for node in game.line.as_slice() {

@@ -10,7 +10,6 @@ use Rattle.base_core.specs.Represents.{Kept, Represents, heads_of}
 use Rattle.cell_core.specs.declared.man.Colour.{Colour}
 use Rattle.cell_core.specs.declared.man.Colour.TheVariants.{White, Black}
 use Rattle.cell_core.specs.declared.step.Move.{Move}
-use Rattle.cell_core.specs.Packed.{Packed, men_of}
 use Rattle.cell_core.proofs.Packing.{given_back}
 use Rattle.game_tree.specs.Head.{without_tags}
 use Rattle.game_tree.specs.declared.head.Head.{Head}
@@ -36,8 +35,8 @@ key-from query ply (Some m) squares exact legal =
     record {
       position = from.position;
       sound = from.sound;
-      board = sym (given_back from.position.board from.sound.squares) ∙ ap (λ (k : Packed). men_of k.cells) from.stands ∙ given_back query.board squares;
-      to_move = ap (λ (k : Packed). k.side) from.stands;
+      board = from.board ∙ given_back query.board squares;
+      to_move = from.to_move;
       legal = from.legal;
     }
 

@@ -49,7 +49,7 @@ pub struct Sig {
     pub nags: u8,
 }
 
-/// The signature of a legal game. It plays the main line once, goes once over all lines, and takes no memory.
+/// The signature of a legal game. It plays the main line once, and takes no memory.
 pub fn sig_of(g: &Game) -> Sig
     requires { IsLegalGame g.now }
     ensures signature { IsSig g.now result }

@@ -14,13 +14,14 @@ use Rattle.chess_laws.specs.declared.setup.Wing.{Wing}
 use Rattle.chess_laws.specs.declared.setup.Wing.TheVariants.{KingSide, QueenSide}
 use Rattle.chess_laws.specs.Attacks.{IsInCheck}
 use Rattle.chess_laws.specs.Castling.{StandAtHome, has_right}
+use Rattle.chess_laws.specs.Moves.{IsFrom}
 use Rattle.chess_laws.specs.Position.{Sound, Breaks, HasFitEnPassant, is_at_home, rights_of, setup_of}
 use Rattle.chess_laws.specs.Step.{effect_of, Case, board_after, Legal}
 use Rattle.chess_laws.proofs.Kings.{is_man-true}
 use Rattle.chess_laws.proofs.MovedKings.{legal-allowed, legal-safe}
 use Rattle.chess_laws.proofs.Soundness.{sound_of}
 use Rattle.tree_rows.proofs.SameBoard.{altered, effect-same, plain-same, double-same, legal-with}
-use Rattle.tree_rows.specs.MoveText.{right_needed, square_needed, needed, IsFrom}
+use Rattle.tree_rows.specs.MoveText.{right_needed, square_needed, needed}
 
 -- the board and the side of a position with these rights and this en passant square
 abbrev with_only : Setup → ℕ → Option ℕ → Setup

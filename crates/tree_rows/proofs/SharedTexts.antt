@@ -12,6 +12,7 @@ use Rattle.chess_laws.specs.declared.setup.Rights.{Rights}
 use Rattle.chess_laws.specs.declared.setup.Setup.{Setup}
 use Rattle.chess_laws.specs.Attacks.{IsInCheck}
 use Rattle.chess_laws.specs.Geometry.{file_of}
+use Rattle.chess_laws.specs.Moves.{IsFrom}
 use Rattle.chess_laws.specs.Position.{Sound, HasKings, rights_of}
 use Rattle.chess_laws.specs.Step.{effect_of, Case, board_after, captures_by, is_capture, Legal}
 use Rattle.chess_laws.proofs.Kings.{king-only}
@@ -25,7 +26,7 @@ use Rattle.chess_text.proofs.TextLaws.{computed}
 use Rattle.tree_rows.proofs.SameBoard.{altered, effect-same, plain-same, legal-with}
 use Rattle.tree_rows.proofs.NeededLaws.{needed_legal, needed_sound}
 use Rattle.tree_rows.proofs.SharedSigns.{sign-after}
-use Rattle.tree_rows.specs.MoveText.{right_needed, square_needed, bare, needed, IsFrom}
+use Rattle.tree_rows.specs.MoveText.{right_needed, square_needed, bare, needed}
 
 -- ---- the other men that can go there
 

@@ -1,5 +1,5 @@
 -- The text of a move in a tree (this project's own, over PGN standard, 8.2.3).
-use Rattle.std.specs.Prelude.{◌≡◌, ℕ, List, Option, Some, None, codes}
+use Rattle.std.specs.Prelude.{ℕ, List, Option, Some, None, codes}
 use Rattle.std.specs.Option.{option_map_or}
 use Rattle.cell_core.specs.declared.man.Colour.{Colour}
 use Rattle.cell_core.specs.declared.man.Colour.TheVariants.{White, Black}
@@ -9,8 +9,9 @@ use Rattle.chess_laws.specs.declared.effect.Effect.{Effect}
 use Rattle.chess_laws.specs.declared.effect.Effect.TheVariants.{Passing, Castle}
 use Rattle.chess_laws.specs.declared.setup.Setup.{Setup}
 use Rattle.chess_laws.specs.declared.setup.Wing.TheVariants.{KingSide, QueenSide}
-use Rattle.chess_laws.specs.Position.{Sound, setup_of}
-use Rattle.chess_laws.specs.Step.{effect_of, Legal}
+use Rattle.chess_laws.specs.Moves.{IsFrom}
+use Rattle.chess_laws.specs.Position.{setup_of}
+use Rattle.chess_laws.specs.Step.{effect_of}
 use Rattle.chess_text.specs.SanText.{san_text}
 
 -- The castling right that a half-move needs, as the bits of a position's rights: for castling the one on its wing, else none.
@@ -38,14 +39,6 @@ needed men side m =
 -- The text of a row's key: the move in Standard Algebraic Notation in that position.
 abbrev pub key_text : Men → Colour → Option Move → List ℕ
 key_text men side key = option_map_or (λ m. san_text (needed men side m) m) key (codes "end")
-
--- The move is legal from some position of this board and side to move.
-pub record IsFrom (men : Men) (side : Colour) (m : Move) : Type 0 where
-  pub position : Setup
-  pub sound : Sound position
-  pub board : position.board ≡ men
-  pub to_move : position.side ≡ side
-  pub legal : Legal position m
 
 -- A key of a tree of this board and side: such a move, or `end`.
 abbrev pub IsKey : Men → Colour → Option Move → Type 0

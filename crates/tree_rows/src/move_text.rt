@@ -1,8 +1,9 @@
 //! The text of a move of a tree.
 ghost use Rattle.std.specs.Prelude.{◌≡◌, ◌↔◌, IsTrue};
+ghost use Rattle.chess_laws.specs.Moves.{IsFrom};
 ghost use Rattle.chess_laws.specs.Position.{Sound, setup_of};
 ghost use Rattle.chess_text.specs.SanText.{san_text};
-ghost use Rattle.tree_rows.specs.MoveText.{IsFrom, IsKey, needed, right_needed, square_needed};
+ghost use Rattle.tree_rows.specs.MoveText.{IsKey, needed, right_needed, square_needed};
 
 use arrayvec::ArrayVec;
 use cell_core::{Board, Colour, Move, Square};
