@@ -193,7 +193,9 @@ def edits_go_on_after_a_compaction(folder):
     """What is read and added after a compaction is read of the new files and added to them."""
     base = make_base(folder)
     second = re.findall(r'^\[Black "(.*)"\]', (TOP / "samples/classics.pgn").read_text(), flags=re.M)[1]
-    status, output, errors = run(base, "show 0\ntag 1 White Z\ndelete 0\ncompact\nshow 0\ntag 0 Black C\nshow 0\nsave\nshow 0\n")
+    # The second addition waits unread, and goes with its game.
+    script = "show 0\ntag 1 White Z\ntag 2 White Y\ndelete 0\ndelete 2\ncompact\nshow 0\ntag 0 Black C\nshow 0\nsave\nshow 0\n"
+    status, output, errors = run(base, script)
     assert (status, errors) == (0, ""), errors
     assert re.findall(r'^\[Black "(.*)"\]', output, flags=re.M)[1:] == [second, "C", "C"], output
     assert " - C" in heads(base)[0]
@@ -226,14 +228,15 @@ def additions_wait_for_a_block(folder):
 
 def a_record_that_changes_ends_the_run(folder):
     """A record that another program writes over after the opening, with bytes that are none or with the record of another game: whoever reads
-    it ends there, and leaves the files as they are. Searches go along the moves alone, and a tree to the move behind the position. A demo of no
-    games has said so before it searches."""
+    it ends there, and leaves the files as they are. Searches, trees, slots, an index, twins and codes go along the moves alone, and a tree to
+    the move behind the position. A demo of no games has said so before it searches."""
     read = ("show 0", "export", "tag 0 White C")
     start = "rnbqkbnr/pppppppp/8/8/8/8/PPPPPPPP/RNBQKBNR w"
     search = (f"find {start}", f"search ignore position exact {start}", f"search ignore position pawns {start}", "search ignore material wp=8..8",
-              f"tree {start}", "demo 1 0")
+              f"tree {start}", "demo 1 0", f"watch 0 {start}", "index 20", "twins 0", "eco <<END\nA00 e4\nEND")
     none, another, no_move = b"\xce", b"\0\0\xcf\x0c\x0f", b"\0\0\xce"
-    for what, new in (*((what, none) for what in (*read, *search)), *((what, another) for what in read), (f"tree {start}", no_move)):
+    for what, new in (*((what, none) for what in (*read, *search)), *((what, another) for what in read),
+                      *((what, no_move) for what in (f"tree {start}", f"watch 0 {start}"))):
         for before in ((), search[:1]):
             session, base = two_blocks(folder, before)
             with Path(f"{base}.sg4").open("r+b") as file:

@@ -2,9 +2,10 @@
 """docs/check.py: looks whether the documents name what is there.
 
 Each word that a row of docs/CLAIMS.md names as the call or clause of something proved has to be a function, a type, a clause, a definition or
-a field of the repository; of the table of answers each clause has to be one of the call's own, and each call that the crates hand out and that
-can answer an error other than want of memory has to be in it. docs/TRUSTED.md has to list the files of specs/
-that the theorem of the program rests on, and apart from them those that other public clauses rest on, as docs/trusted.py finds them."""
+a field of the repository, and a clause one of the calls and types that the row, the row above or the section's head names; of the table of
+answers each clause has to be one of the call's own, and each call that the crates hand out and that can answer an error other than want of
+memory has to be in it. docs/TRUSTED.md has to list the files of specs/ that the theorem of the program rests on, and apart from them those
+that other public clauses rest on, as docs/trusted.py finds them."""
 import re
 import sys
 
@@ -30,17 +31,61 @@ def names_there():
 
 
 def rows():
-    """The rows of the claims: the line's number, and the words of the column of calls and clauses where it says that it is proved."""
+    """The rows of the claims that say that something is proved: the line's number, the words of the section's head and of the claim, and those
+    of the column of calls and clauses."""
+    head = []
     for number, line in enumerate((TOP / "docs/CLAIMS.md").read_text().splitlines(), 1):
+        if line.startswith("## "):
+            head = re.findall(r"`([^`]+)`", line)
         cells = [it.strip() for it in line.strip().strip("|").split("|")] if line.startswith("|") else []
         if len(cells) == 3 and "proved" in cells[2]:
-            yield number, re.findall(r"`([^`]+)`", cells[1])
+            yield number, head + re.findall(r"`([^`]+)`", cells[0]), cells[1]
+
+
+def promises():
+    """Each function of the code: its crate, the type or trait that it belongs to, its name and its clauses."""
+    for path in sources("src", ".rt"):
+        owner = None
+        for part in re.split(r"^(?=(?:pub )?(?:impl|trait)\b|\})|^(?=\s*(?:pub(?:\(crate\))? )?(?:const )?fn )", path.read_text(), flags=re.M):
+            if block := trusted.OWNER.match(part):
+                owner = block[3]
+            elif part.startswith("}"):
+                owner = None
+            if head := re.match(r"\s*(?:pub(?:\(crate\))? )?(?:const )?fn (\w+)", part):
+                yield trusted.crate_of(path), owner, head[1], set(re.findall(r"\bensures (\w+) \{", part))
+
+
+def misplaced_clauses():
+    """Clauses that no call or type of their row has."""
+    functions = [*promises()]
+    clauses = {clause for *_, of in functions for clause in of}
+    others = {name for _, _, name, _ in functions} | {name for file in trusted.read_all().values() for name in file.block_of}
+    others |= {crate for crate, *_ in functions}
+
+    def scope(words):
+        found = set()
+        for word in words:
+            *kind, last = word.split("::")
+            for crate, owner, name, of in functions:
+                if last == owner or last == name and (not kind or kind[-1] in (crate, owner)):
+                    found |= of
+        return found
+
+    above = set()
+    for number, around, cell in rows():
+        own = scope(re.findall(r"`([^`]+)`", cell))
+        near = own | above | scope(around)
+        above = own or above
+        # Words in brackets are of the definitions that a clause cites.
+        for word in re.findall(r"`(\w+)`", re.sub(r"\([^)]*\)", "", cell)):
+            if word in clauses - others - near:
+                yield f"docs/CLAIMS.md:{number}: no call of this row has a clause {word}"
 
 
 def unknown_words():
     there = names_there()
-    for number, words in rows():
-        for word in words:
+    for number, _, cell in rows():
+        for word in re.findall(r"`([^`]+)`", cell):
             if word.startswith(("cases/", "docs/", "bench/", "crates/")):
                 if not (TOP / word).exists():
                     yield f"docs/CLAIMS.md:{number}: there is no {word}"
@@ -119,7 +164,7 @@ def missing_answers():
 
 
 def main():
-    faults = [*unknown_words(), *unknown_answers(), *missing_answers(), *trusted.faults()]
+    faults = [*unknown_words(), *misplaced_clauses(), *unknown_answers(), *missing_answers(), *trusted.faults()]
     for fault in faults:
         print(fault)
     return 1 if faults else 0

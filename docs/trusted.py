@@ -8,13 +8,14 @@ Usage: docs/trusted.py            how many definitions of each crate, and how ma
        docs/trusted.py --files    the same of each file, with the names
 
 docs/check.py looks whether docs/TRUSTED.md lists these files, and those that the other public clauses cite."""
+import itertools
 import pathlib
 import re
 import sys
 
 TOP = pathlib.Path(__file__).resolve().parent.parent
 PAGE = "docs/TRUSTED.md"
-PRIVATE = "No public contract cites these words"
+PRIVATE = re.compile(r"no public contract cites|only private functions cite", flags=re.I)
 FIRST, SECOND = "What the theorem of `session` rests on", "What the crates' other clauses cite"
 THEOREM = [
     ("shell_session", "run.rt", "pub fn session"),
@@ -208,8 +209,14 @@ def out_of_order(rows, theorem, files):
                 yield f"{PAGE}:{line_of[module]}: {module} stands before {other}, which it names"
 
 
+def heading(file):
+    """The comment that a file begins with, as one line."""
+    lines = itertools.takewhile(lambda it: it.startswith("--"), file.text.splitlines())
+    return " ".join(it.removeprefix("--").strip() for it in lines)
+
+
 def cited_private_words(files, cited):
-    private = {module for module, file in files.items() if PRIVATE in " ".join(file.text.split("\n")[:3])}
+    private = {module for module, file in files.items() if PRIVATE.search(heading(file))}
     for module, number in sorted(cited, key=str):
         if module in private:
             name = next(name for name, block in files[module].block_of.items() if block == number)
