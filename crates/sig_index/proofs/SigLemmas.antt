@@ -11,9 +11,9 @@ no : false ≡ true → ⊥
 no e = absurd cc
 
 -- what the test of the start says
-pub own_is : (r : Bool) (a b s t : Setup) → (IsTrue r ↔ (a ≡ b)) → a ≡ s → b ≡ t → MatchBool (not r) (s ≡ t → ⊥) (s ≡ t)
-own_is true a b s t both ea eb = sym ea ∙ both.0 refl ∙ eb
-own_is false a b s t both ea eb = λ e. no (both.1 (ea ∙ e ∙ sym eb))
+pub own_is : (r : Bool) (position start initial : Setup) → (IsTrue r ↔ (position ≡ initial)) → position ≡ start → MatchBool (not r) (start ≡ initial → ⊥) (start ≡ initial)
+own_is true position start initial both is = sym is ∙ both.0 refl
+own_is false position start initial both is = λ same. no (both.1 (is ∙ same))
 
 many : (n : ℕ) → 45 ≤ n → count_code n ≡ 15
 many n le = rw (lt-leb n 10 (omega arith), lt-ltb 12 n (omega arith), lt-ltb 17 n (omega arith), lt-ltb 24 n (omega arith), lt-ltb 34 n (omega arith), lt-ltb 44 n (omega arith)) refl

@@ -8,9 +8,8 @@ ghost use Rattle.game_tree.specs.Replay.{plies_of};
 ghost use Rattle.game_tree.specs.declared.head.Tag.{Tag as TagValue};
 ghost use Rattle.sig_index.specs.Signature.{IsSig, IsSigBounded, all_homes, home_list, left_of};
 
-use crate::signature::{HOMES, HomeList, Sig, home_list, is_initial, leave_by, material_of};
+use crate::signature::{HOMES, HomeList, Sig, home_list, leave_by, material_of};
 use arrayvec::ArrayVec;
-use chess_laws::Position;
 use game_codec::{Reading, RecordFault};
 use index_entry::count_code;
 
@@ -26,7 +25,7 @@ pub fn signed(bytes: &[u8]) -> Result<Sig, RecordFault>
     ensures only { (tags : List TagValue) (game : GameTree) → IsRecord bytes.now tags game → MatchResult result (IsSig game) (λ _. ⊥) }
 {
     let mut reading = Reading::new(bytes)?;
-    let own_start = !is_initial(reading.position().setup(), Position::start().setup());
+    let own_start = !reading.position().is_start();
     let home = left_along(&mut reading, own_start)?;
     let material = material_of(reading.position());
     let plies = reading.ply().min(1023) as u16;

@@ -10,7 +10,7 @@ ghost use Rattle.sig_index.specs.Signature.{IsSig, IsSigBounded, material_of, le
 
 use arrayvec::ArrayVec;
 use cell_core::{Move, Square};
-use chess_laws::{Position, Setup};
+use chess_laws::Position;
 use game_tree::Game;
 use index_entry::count_code;
 
@@ -78,7 +78,7 @@ pub fn sig_ending(g: &Game, last: &Position) -> Sig
     ensures signature { IsSig g.now result }
     ensures bounded { IsSigBounded result }
 {
-    let own_start = !is_initial(g.start.setup(), Position::start().setup());
+    let own_start = !g.start.is_start();
     let counts = g.counts();
     Sig {
         material: material_of(last),
@@ -202,11 +202,4 @@ pub(crate) fn material_of(last: &Position) -> [u8; 10]
         counts[8].min(3),
         counts[9],
     ]
-}
-
-/// Whether this is the initial position.
-pub(crate) fn is_initial(setup: &Setup, initial: &Setup) -> bool
-    ensures { IsTrue result ↔ (setup.now ≡ initial.now) }
-{
-    setup == initial
 }

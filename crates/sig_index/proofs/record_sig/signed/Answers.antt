@@ -24,9 +24,8 @@ returns-clause-signed c =
         (
           r,
           sig-is game _ c.position-2.result.now c.left_along.new.reading.ply c.in_ok-totals.totals
-              (own_is c.is_initial-own_start.result c.setup.result.now c.setup-2.result.now game.start _ c.is_initial-own_start.ensures
-              (c.setup.ensures.setup ∙ c.position.ensures.replay tags game here ∙ ap (position_at game) c.in_ok-reading.ensures.start)
-              (c.setup-2.ensures.setup ∙ c.start.ensures.start))
+              (own_is c.is_start-own_start.result c.position.result.now game.start _ c.is_start-own_start.ensures.start
+              (c.position.ensures.replay tags game here ∙ ap (position_at game) c.in_ok-reading.ensures.start))
               c.material_of-material.ensures.material (c.position-2.ensures.replay tags game there)
               (subst (λ (n : ℕ). n ≤ plies_of game) c.ply.ensures.ply (c.ply.ensures.within tags game there)) (c.in_ok-home.ensures.all tags game here)
               (c.in_ok-home.ensures.left tags game here) (c.min-plies.ensures ∙ ap (λ (n : ℕ). min n 1023) c.ply.ensures.ply) refl refl
@@ -45,9 +44,8 @@ returns-clause-bounded c =
     let here = subst (λ (b : List ℕ). IsRecord b tags game) (sym c.in_ok-reading.ensures.bytes) r in
     let there = subst (λ (b : List ℕ). IsRecord b tags game) (sym c.left_along.ensures.bytes) here in
     sig-bounded game _ (sig-is game _ c.position-2.result.now c.left_along.new.reading.ply c.in_ok-totals.totals
-    (own_is c.is_initial-own_start.result c.setup.result.now c.setup-2.result.now game.start _ c.is_initial-own_start.ensures
-    (c.setup.ensures.setup ∙ c.position.ensures.replay tags game here ∙ ap (position_at game) c.in_ok-reading.ensures.start)
-    (c.setup-2.ensures.setup ∙ c.start.ensures.start))
+    (own_is c.is_start-own_start.result c.position.result.now game.start _ c.is_start-own_start.ensures.start
+    (c.position.ensures.replay tags game here ∙ ap (position_at game) c.in_ok-reading.ensures.start))
     c.material_of-material.ensures.material (c.position-2.ensures.replay tags game there)
     (subst (λ (n : ℕ). n ≤ plies_of game) c.ply.ensures.ply (c.ply.ensures.within tags game there)) (c.in_ok-home.ensures.all tags game here)
     (c.in_ok-home.ensures.left tags game here) (c.min-plies.ensures ∙ ap (λ (n : ℕ). min n 1023) c.ply.ensures.ply) refl refl
@@ -65,9 +63,8 @@ returns-clause-only c = λ others other r'.
     let there = subst (λ (b : List ℕ). IsRecord b tags game) (sym c.left_along.ensures.bytes) here in
     let same = record-one c.args.bytes.now tags others game other r r' in
     rw (sym same.1) (sig-is game _ c.position-2.result.now c.left_along.new.reading.ply c.in_ok-totals.totals
-    (own_is c.is_initial-own_start.result c.setup.result.now c.setup-2.result.now game.start _ c.is_initial-own_start.ensures
-    (c.setup.ensures.setup ∙ c.position.ensures.replay tags game here ∙ ap (position_at game) c.in_ok-reading.ensures.start)
-    (c.setup-2.ensures.setup ∙ c.start.ensures.start))
+    (own_is c.is_start-own_start.result c.position.result.now game.start _ c.is_start-own_start.ensures.start
+    (c.position.ensures.replay tags game here ∙ ap (position_at game) c.in_ok-reading.ensures.start))
     c.material_of-material.ensures.material (c.position-2.ensures.replay tags game there)
     (subst (λ (n : ℕ). n ≤ plies_of game) c.ply.ensures.ply (c.ply.ensures.within tags game there)) (c.in_ok-home.ensures.all tags game here)
     (c.in_ok-home.ensures.left tags game here) (c.min-plies.ensures ∙ ap (λ (n : ℕ). min n 1023) c.ply.ensures.ply) refl refl

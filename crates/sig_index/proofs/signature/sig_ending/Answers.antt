@@ -19,11 +19,10 @@ returns c =
     record {
       signature = whole _ _ (record {
         material = c.material_of.ensures.material ∙ ap (λ (p : Setup). material_of p.board) c.requires.last;
-        own_start = own_is c.is_initial-own_start.result c.setup.result.now c.setup-2.result.now c.args.g.now.start _ c.is_initial-own_start.ensures
-            (c.setup.ensures.setup ∙ ap (λ (g : GameTree). g.start) c.g.view_is) (c.setup-2.ensures.setup ∙ c.start.ensures.start);
+        own_start = own_is c.is_start-own_start.result _ c.args.g.now.start _ c.is_start-own_start.ensures.start (ap (λ (g : GameTree). g.start) c.g.view_is);
         home = elim c.if-own_start.branch [
-          | then-own_start w ↦ w.result-is ∙ w.home_list.ensures ∙ ap home_list (sym (cond-true (not c.is_initial-own_start.result) [] (left_of c.args.g.now) (ap not w.if-own_start.true)))
-          | else-own_start w ↦ w.result-is ∙ w.left_along.ensures.left ∙ ap home_list (sym (cond-false (not c.is_initial-own_start.result) [] (left_of c.args.g.now) (ap not w.if-own_start.false)))
+          | then-own_start w ↦ w.result-is ∙ w.home_list.ensures ∙ ap home_list (sym (cond-true (not c.is_start-own_start.result) [] (left_of c.args.g.now) (ap not w.if-own_start.true)))
+          | else-own_start w ↦ w.result-is ∙ w.left_along.ensures.left ∙ ap home_list (sym (cond-false (not c.is_start-own_start.result) [] (left_of c.args.g.now) (ap not w.if-own_start.false)))
         ];
         plies = c.min.ensures ∙ ap (λ n. min n 1023) (sym (length-moves_of c.as_slice.result.now)
             ∙ ap (λ (l : Line). length (moves_of l)) (ap line_of c.as_slice.ensures.value ∙ ap (λ (g : GameTree). g.line) c.g.view_is));
