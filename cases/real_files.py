@@ -41,9 +41,13 @@ class Session:
         self.opened = self.process.stdout.readline()
 
     def ask(self, line):
+        too_long = threading.Timer(60, self.process.kill)
+        too_long.start()
         self.process.stdin.write(line + "\n")
         self.process.stdin.flush()
-        return self.process.stdout.readline()
+        answer = self.process.stdout.readline()
+        too_long.cancel()
+        return answer
 
     def end(self):
         output, errors = self.process.communicate(timeout=60)

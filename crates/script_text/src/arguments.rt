@@ -37,13 +37,6 @@ pub(crate) fn no_more(words: &[Word], n: u32) -> Result<(), ScriptFault>
     }
 }
 
-/// No argument.
-pub(crate) fn none(words: &[Word]) -> Result<(), ScriptFault>
-    ensures { result ≡ no_more 0 words.now }
-{
-    no_more(words, 0)
-}
-
 /// BOARD SIDE
 #[tactic(auto, unfolding(crate::specs::Arguments::two, crate::specs::Arguments::last_argument))]
 pub(crate) fn board_and_side(words: &[Word]) -> Result<(Board, Colour), ScriptFault>
