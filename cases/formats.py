@@ -1,12 +1,13 @@
 #!/usr/bin/env python3
 """Runs scid_shell over bases with one game whose record, entry, header or names are bytes that were worked out from the formats by hand or by
-another program (docs/RECORDS.md, docs/INDEX_FILE.md, docs/NAMES_FILE.md), good ones and faulty ones.
+another program (docs/RECORDS.md, docs/INDEX_FILE.md, docs/NAMES_FILE.md), good ones and faulty ones, and over texts in PGN (docs/PGN.md).
 
 usage: cases/formats.py [PROGRAM]
 
 A faulty row passes where the base is refused with its fault, in its place. A record passes where the base opens, and where the record that a
 tag of the head makes the program write anew is the row's written form; a main line, where each of its positions is found at its ply; a field
-of an entry at its greatest value, where all that is told of the game is as before but for that field.
+of an entry at its greatest value, where all that is told of the game is as before but for that field; a text, where its game is shown as it is
+written.
 """
 import pathlib
 import struct
@@ -248,6 +249,27 @@ DERIVED = [
     ([(41, 0xF0)], "list of pawns that left home"),
 ]
 
+# Texts of a game, and with what tags behind the date and behind the roster and with what movetext it is shown: the six suffixes and castling in
+# digits, with no number before a move of Black behind a NAG; castling to the queen's side of both; of several tags EventDate the first whose year
+# is at most three from the game's, in the place of all; such tags in which nothing is known, and of a game without a year, as they are; a comment
+# behind a semicolon, without the carriage return of its line.
+TEXTS = [
+    ("1. e4! e5? 2. Nf3!! Nc6?? 3. Bc4!? Bc5?! 4. 0-0 Nf6 *", "????.??.??", [],
+     "1. e4 $1 e5 $2 2. Nf3 $3 Nc6 $4 3. Bc4 $5 Bc5 $6 4. O-O Nf6 *"),
+    ("1. d4 d5 2. Nc3 Nc6 3. Bf4 Bf5 4. Qd2 Qd7 5.0-0-0 0-0-0 *", "????.??.??", [], "1. d4 d5 2. Nc3 Nc6 3. Bf4 Bf5 4. Qd2 Qd7 5. O-O-O O-O-O *"),
+    ('[Date "2000.05.10"] [EventDate "2004.01.02"] [Source "book"] [EventDate "2003.01.02"] [EventDate "2001"] *', "2000.05.10",
+     ['[EventDate "2003.01.02"]', '[Source "book"]'], "*"),
+    ('[Date "2000.05.10"] [EventDate "????.??.??"] *', "2000.05.10", ['[EventDate "????.??.??"]'], "*"),
+    ('[EventDate "1994"] *', "????.??.??", ['[EventDate "1994"]'], "*"),
+    ("1. e4 ;x\r\n e5 *", "????.??.??", [], "1. e4 {x} 1... e5 *"),
+]
+
+# Texts with a comment that is of no game, what `import` says of each, and what game 1 is then.
+COMMENTS = [
+    ("* {behind}", ["added 1", "imported 1 refused 0"], "*"),
+    ("{alone}", ["imported 0 refused 0"], None),
+]
+
 
 def base(record=made.VIENNA_RECORD, entry=made.VIENNA, names=NAMES):
     return made.index([entry]), names, record
@@ -377,8 +399,29 @@ def names():
         refused_names(NAMES[:length], f"{place}: the file ends too early")
 
 
+def shown(date, tags, movetext, head=("?", "?", "?", "?", "?")):
+    """What `show` writes of a game with no known result."""
+    event, site, names_round, white, black = head
+    values = {"Event": event, "Site": site, "Date": date, "Round": names_round, "White": white, "Black": black, "Result": "*"}
+    return [*(f'[{name} "{value}"]' for name, value in values.items()), *tags, "", movetext, ""]
+
+
+def texts():
+    for text, date, tags, movetext in TEXTS:
+        wanted = ["replaced 0", *shown(date, tags, movetext), "unsaved"]
+        look(text, run(base(), f"replace 0 <<X\n{text}\nX\nshow 0\n")[:3], (0, wanted, ""))
+    for text, said, movetext in COMMENTS:
+        wanted = [*said, *(["error: no game 1"] if movetext is None else [*shown("????.??.??", [], movetext), "unsaved"])]
+        look(text, run(base(), f"import <<X\n{text}\nX\nshow 1\n")[:3], (0, wanted, ""))
+    # The event date of an entry, with a tag of its name in the record.
+    record = made.game(made.E4, tags=made.tag(b"EventDate", b"1990"))
+    entry = made.entry(0, len(record), ids=(0, 1, 0, 0, 0), dates=(3 + 4) << 29 | 1 << 25 | 2 << 20 | made.DATE, plies=1, home=(11,))
+    wanted = shown("2000.05.10", ['[EventDate "2003.01.02"]'], "1. e4 *", ("Vienna", "Vienna AUT", "?", "Reti, Richard", "Tartakower, Savielly"))
+    look("the event date of an entry", run(base(record, entry), "show 0\n", "--strict")[:3], (0, wanted, ""))
+
+
 def main():
-    for part in (records, longest_record, walks, entries, indexes, names):
+    for part in (records, longest_record, walks, entries, indexes, names, texts):
         part()
         print(f"{part.__name__}: ok")
 

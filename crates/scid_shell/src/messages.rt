@@ -28,10 +28,10 @@ nothing. Words stand between spaces and tabs; a quoted part keeps its spaces.
   search OP header ITEM ..
                      the games whose head has each item, as `white=Reti` or
                      `year=1900..1910`
-  search OP position MODE BOARD SIDE
+  search OP position MODE BOARD SIDE [vars]
                      the games that reach a position which has in common with
                      a board what MODE says: `exact`, `pawns`, `files` or
-                     `material`
+                     `material`; with `vars` in their variations too
   search OP material ITEM ..
                      the games that have such counts of men, as `wq=1..1`
   reset              all games into the filter
@@ -51,6 +51,7 @@ nothing. Words stand between spaces and tabs; a quoted part keeps its spaces.
   watch K BOARD SIDE slot K, from 0 to 7, shows this tree from then on
   view K             the tree that slot K shows
   unwatch K          slot K shows nothing any more
+  cross EVENT        the crosstable of the event of that name
   import <<WORD      adds the games of the lines of PGN behind this one, up to
                      a line WORD
   replace G <<WORD   puts the one game of those lines in the place of game G
@@ -58,6 +59,13 @@ nothing. Words stand between spaces and tabs; a quoted part keeps its spaces.
   delete G           marks the game G as deleted
   undelete G         takes that mark away
   mark G LETTER on   sets a mark of the game G; `off` takes it away
+  twins D            marks each game as deleted that says the same as an
+                     earlier one: names, date, result, start and first D plies
+  eco <<WORD         gives each game its opening code by the table of the lines
+                     behind this one, as `samples/openings.eco` is one
+  index D            keeps in memory which games meet which board in their
+                     first D plies, 40 at most, so that `find`, exact searches
+                     and `tree` read fewer records; `index off` drops it
   demo SEED GAMES    adds so many games of draws
   save               makes the files mean the base
   compact            takes out the deleted games, and makes the files mean what
