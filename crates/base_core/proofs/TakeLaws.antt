@@ -1,9 +1,9 @@
 -- What is kept of a draft that takes over a game.
-use Rattle.std.proofs.Common.{◌≡◌, ◌<◌, ◌≤◌, ◌+◌, ℕ, IsTrue, List, [], ◌∷◌, ◌++◌, length, take, drop, slice_get, Option, Some, None, Ok, refl, sym, ap, ◌∙◌, subst, arith}
+use Rattle.std.proofs.Common.{◌≡◌, ◌<◌, ◌≤◌, ◌+◌, ℕ, List, [], ◌∷◌, ◌++◌, length, drop, slice_get, Some, Ok, refl, sym, ap, ◌∙◌, subst, arith}
 use Rattle.std.proofs.lemmas.Bool.{lt-ltb}
 use Rattle.std.proofs.lemmas.List.{length-drop, length-take-le, length_push}
 use Rattle.std.proofs.lemmas.Option.{same_Some, slice_get_within}
-use Rattle.base_files.specs.Extents.{IsPlaced, record_in}
+use Rattle.base_files.specs.Extents.{record_in}
 use Rattle.block_store.specs.Placing.{end_after, longest_file, padded, padding, placed_at}
 use Rattle.block_store.proofs.Places.{padding-fits}
 use Rattle.game_codec.specs.RecordAnswer.{record_answer}
@@ -15,12 +15,12 @@ use Rattle.index_entry.specs.declared.entry.Entry.{Entry}
 use Rattle.index_entry.specs.declared.index.IndexHead.{IndexHead}
 use Rattle.name_base.specs.NameLists.{AreSound, NameLists}
 use Rattle.base_core.specs.declared.naming.NameIds.{NameIds}
-use Rattle.base_core.specs.Base.{Base, Held}
+use Rattle.base_core.specs.Base.{Held}
 use Rattle.base_core.specs.Drafts.{Grows, Takes, TakesOver, length_at, length_in, placed_entry}
 use Rattle.base_core.specs.declared.fault.What.TheVariants.{File}
 use Rattle.base_core.specs.Edited.{full_names, or_file}
 use Rattle.base_core.specs.Edits.{names_with, with_game}
-use Rattle.base_core.specs.Entries.{HasNames, Says, extent_of, head_of}
+use Rattle.base_core.specs.Entries.{HasNames, extent_of, head_of}
 use Rattle.base_core.specs.Means.{HoldsNames}
 use Rattle.base_core.specs.Placing.{AreIds}
 use Rattle.base_core.specs.Represents.{IsKept, IsSound, Keeps, Kept, Represents}

@@ -1,15 +1,15 @@
 -- How many men boards have at least.
-use Rattle.std.proofs.Common.{◌≡◌, ◌<◌, ◌≤◌, ◌+◌, ℕ, true, false, List, get_or, length, Some, take, sym, ap, ◌∙◌, subst, arith, inl, inr}
+use Rattle.std.proofs.Common.{◌≡◌, ◌<◌, ◌≤◌, ◌+◌, ℕ, false, List, get_or, length, Some, take, ap, subst, arith, inl, inr}
 use Rattle.std.specs.Prelude.{All, min, slice_get}
 use Rattle.std.proofs.lemmas.Bool.{cases_Bool}
 use Rattle.std.proofs.lemmas.List.Elements.{All-more}
 use Rattle.std.proofs.lemmas.Option.{get_or_from_slice_get, slice_get_within}
-use Rattle.cell_core.specs.Packed.{ArePacked, Packed, men_of}
+use Rattle.cell_core.specs.Packed.{ArePacked, Packed}
 use Rattle.chess_laws.specs.Position.{Sound}
 use Rattle.game_tree.specs.Game.{GameTree}
 use Rattle.game_tree.specs.Legal.{IsLegalGame}
-use Rattle.game_tree.specs.Replay.{plies_of, position_at}
-use Rattle.pos_search.specs.Matching.{matches, matches_at}
+use Rattle.game_tree.specs.Replay.{position_at}
+use Rattle.pos_search.specs.Matching.{matches_at}
 use Rattle.book_pages.specs.Keeping.{AreMetNoMore, IsBoard, men_in, query_of}
 use Rattle.book_pages.proofs.MenLemmas.{men_fall}
 use Rattle.book_pages.proofs.PlaceLemmas.{matched, no_board}

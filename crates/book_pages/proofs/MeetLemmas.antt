@@ -13,7 +13,7 @@ use Rattle.sig_index.specs.declared.pos_query.PosQuery.{PosQuery}
 use Rattle.tree_rows.specs.MoveText.{IsKey}
 use Rattle.tree_rows.specs.declared.hit.GameHit.{GameHit}
 use Rattle.book_pages.specs.declared.counting.Counted.{Counted}
-use Rattle.book_pages.specs.Keeping.{AreMet, AreMetAt, AreMetNoMore, AreTallies, HasKeys, IsBelow, IsHere, IsMet, IsMetIf, IsNone_or_below, Tallied, first_before, hit_at, hit_before, query_of}
+use Rattle.book_pages.specs.Keeping.{AreMet, AreMetAt, AreMetNoMore, AreTallies, HasKeys, IsBelow, IsHere, IsMet, IsMetIf, IsNone_or_below, Tallied, first_before, hit_at, query_of}
 
 -- The last game is this one or not.
 last_is : (last : Option ℕ) (i : ℕ) → (last ≡ Some i) ⊎ (last ≡ Some i → ⊥)

@@ -1,5 +1,5 @@
 -- On which board a position stands.
-use Rattle.std.proofs.Common.{◌≡◌, ◌<◌, ◌&&◌, ℕ, Bool, true, false, eqb, List, [], get_or, length, Option, None, Some, refl, sym, ap, ◌∙◌, subst, arith, inl, inr, rules, true≢false}
+use Rattle.std.proofs.Common.{◌≡◌, ◌<◌, ◌&&◌, ℕ, true, false, eqb, List, [], get_or, length, Option, None, Some, refl, sym, ap, ◌∙◌, subst, arith, inl, inr, rules, true≢false}
 use Rattle.std.specs.Prelude.{All, is_some, nat_eq, position, slice_get}
 use Rattle.std.specs.Bool.{Decides}
 use Rattle.std.specs.Cmp.Lexicographic.{pointwise}

@@ -11,7 +11,7 @@ use Rattle.block_store.specs.Placing.{end_after, padded, padding}
 use Rattle.index_entry.specs.declared.entry.Entry.{Entry}
 use Rattle.base_core.specs.Compacted.{end_of}
 use Rattle.base_core.specs.Entries.{extent_of}
-use Rattle.base_core.specs.Represents.{Kept, Represents}
+use Rattle.base_core.specs.Represents.{Kept}
 use Rattle.base_core.specs.GameAt.{IsStillOfGame, SaysWhy}
 use Rattle.base_core.specs.GameAt.{IfChanged as IfGameChanged}
 use Rattle.base_core.specs.declared.fault.EditError.{EditError}

@@ -1,6 +1,6 @@
 -- What the devices leave, and why they fail.
-use Rattle.std.proofs.Common.{◌≡◌, ◌≤◌, ℕ, List, length, Option, None, Some, IfErr, OnOk, OnErr, Result, Ok, Err, refl, sym, ap, ◌∙◌, subst, inl, inr, arith}
-use Rattle.base_files.specs.Counters.{LAST, Rose}
+use Rattle.std.proofs.Common.{◌≡◌, ◌≤◌, ℕ, List, IfErr, OnOk, OnErr, Result, Ok, Err, refl, sym, ap, ◌∙◌, subst, inl, inr, arith}
+use Rattle.base_files.specs.Counters.{Rose}
 use Rattle.base_files.specs.Seen.{FreshAlone, Seen, begun, lengthened}
 use Rattle.mend_base.specs.Devices.{IsNew, IsOld, IsReport}
 use Rattle.mend_base.specs.Keeping.{IsKeeping, WhyStopped}

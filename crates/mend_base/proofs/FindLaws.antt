@@ -1,5 +1,5 @@
 -- What was found of a game, where the games file is told.
-use Rattle.std.proofs.Common.{◌≡◌, ◌≤◌, ◌<◌, ◌+◌, ◌*◌, ℕ, Bool, false, List, length, take, if◌then◌else◌, is_some, Option, None, Some, Ok, Err, IfSome, IsTrue, refl, sym, ap, ◌∙◌, subst, inl, inr, arith, true≢false}
+use Rattle.std.proofs.Common.{◌≡◌, ◌≤◌, ◌<◌, ◌+◌, ◌*◌, ℕ, Bool, false, List, length, take, is_some, Option, None, Some, Ok, Err, IfSome, IsTrue, refl, sym, ap, ◌∙◌, subst, inl, inr, arith, true≢false}
 use Rattle.std.proofs.lemmas.Bool.{le-ltb, lt-leb}
 use Rattle.base_files.specs.Told.{Tells, TellsLength, part_told}
 use Rattle.game_codec.specs.Fault.{IsRecordFault}

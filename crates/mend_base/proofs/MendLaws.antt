@@ -1,5 +1,5 @@
 -- The draft and the new games file after the first games, and one game more.
-use Rattle.std.proofs.Common.{◌≡◌, ◌≤◌, ◌<◌, ◌+◌, ◌-◌, ℕ, zero, suc, List, [], ◌∷◌, ◌++◌, length, take, Option, None, Some, Result, Ok, Err, IfSome, refl, sym, ap, ◌∙◌, subst, arith, zero-add, suc-add}
+use Rattle.std.proofs.Common.{◌≡◌, ◌≤◌, ◌<◌, ◌+◌, ◌-◌, ℕ, zero, suc, List, [], ◌∷◌, ◌++◌, length, Option, None, Some, Ok, Err, IfSome, refl, sym, ap, ◌∙◌, subst, arith, zero-add, suc-add}
 use Rattle.std.proofs.lemmas.List.{length_push}
 use Rattle.std.proofs.lemmas.Option.{none-some}
 use Rattle.base_files.specs.Extents.{record_in}
@@ -18,7 +18,6 @@ use Rattle.base_core.specs.Drafts.{Grows, Takes, begun}
 use Rattle.base_core.specs.Edited.{full_names, or_file}
 use Rattle.base_core.specs.Edits.{names_with, with_game}
 use Rattle.base_core.specs.Entries.{extent_of, head_of}
-use Rattle.base_core.specs.Opening.{IfTold}
 use Rattle.base_core.specs.Represents.{Keeps, Kept, Represents}
 use Rattle.base_core.specs.Saved.{OpensAgain}
 use Rattle.base_core.specs.declared.fault.BaseFault.{BaseFault}
@@ -30,7 +29,7 @@ use Rattle.mend_base.specs.Finding.{KeepsWhole, entries_cost, entry_cost}
 use Rattle.mend_base.specs.Keeping.{FillsNext, MendsNext, PutsIt, WhyStopped}
 use Rattle.mend_base.specs.Mending.{BeganTelling, HasMended, IsMade, IsTooMuch, Mends, WhyNotMended}
 use Rattle.mend_base.specs.Notes.{with_notes}
-use Rattle.mend_base.specs.Places.{IsPlace, Place, games_of, mended_base, note_of, note_of_missing, notes_from}
+use Rattle.mend_base.specs.Places.{IsPlace, Place, games_of, mended_base, note_of, note_of_missing}
 use Rattle.mend_base.specs.declared.fault.MendError.{MendError}
 use Rattle.mend_base.specs.declared.fault.MendError.TheVariants as error
 use Rattle.mend_base.specs.declared.mending.Mended.{Mended}

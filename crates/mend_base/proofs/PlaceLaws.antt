@@ -1,9 +1,8 @@
 -- The places of games, with one more.
-use Rattle.std.proofs.Common.{◌≡◌, ◌≤◌, ◌<◌, ◌+◌, ◌⊎◌, ℕ, zero, suc, List, [], ◌∷◌, ◌++◌, length, slice_get, Option, None, Some, Result, Ok, Err, refl, sym, ap, ◌∙◌, subst, inl, inr, arith, append_assoc, append-nil}
+use Rattle.std.proofs.Common.{◌≡◌, ◌+◌, ℕ, List, [], ◌∷◌, ◌++◌, length, Option, None, Some, Ok, Err, refl, sym, ap, ◌∙◌, subst, inl, inr, arith, append_assoc, append-nil}
 use Rattle.std.proofs.lemmas.List.{length_push}
 use Rattle.std.proofs.lemmas.Option.{none-some}
 use Rattle.name_base.specs.PartNames.{PartLists}
-use Rattle.base_core.specs.Base.{Held}
 use Rattle.base_core.proofs.ReadLaws.{IsIn, placed_in}
 use Rattle.mend_base.specs.Notes.{with_notes}
 use Rattle.mend_base.specs.Places.{ArePlaces, Found, IsPlace, Place, games_of, note_of, notes_from}

@@ -1,7 +1,6 @@
 -- Each game has a place.
-use Rattle.std.proofs.Common.{◌≡◌, ◌≤◌, ◌<◌, ◌+◌, ◌*◌, ℕ, zero, suc, List, [], ◌∷◌, ◌++◌, length, take, drop, Option, Some, Result, Ok, Err, IfSome, refl, sym, ap, ◌∙◌, subst, inl, inr, arith, add-one, eq-or-lt_of_le}
+use Rattle.std.proofs.Common.{◌≡◌, ◌<◌, ◌+◌, ◌*◌, ℕ, zero, suc, List, [], ◌∷◌, ◌++◌, length, Some, Ok, Err, sym, subst, inl, inr, arith, add-one, eq-or-lt_of_le}
 use Rattle.base_files.specs.Extents.{record_in}
-use Rattle.game_tree.specs.Date.{keeps_rule}
 use Rattle.index_entry.specs.Entry.{IsEntry}
 use Rattle.index_entry.specs.Index.{entry_bytes}
 use Rattle.index_entry.specs.declared.entry.Entry.{Entry}
@@ -12,7 +11,7 @@ use Rattle.base_core.specs.FirstFault.{entry_checked}
 use Rattle.base_core.specs.declared.fault.BaseFault.{BaseFault}
 use Rattle.base_core.specs.declared.fault.BaseFault.TheVariants.{Index}
 use Rattle.mend_base.specs.Finding.{HasPlace, IsFoundIn}
-use Rattle.mend_base.specs.Places.{ArePlaces, HasEntry, IsPlace, Place}
+use Rattle.mend_base.specs.Places.{ArePlaces, HasEntry, Place}
 use Rattle.mend_base.specs.declared.finding.Find.{Find}
 use Rattle.mend_base.specs.declared.finding.Find.TheVariants as find
 use Rattle.mend_base.proofs.FindLaws.{broken-place, cut-place, unread-place, whole-place}

@@ -21,6 +21,7 @@ pub mod SpellingLaws
 pub mod ReadableLaws
 pub mod TagTextLaws
 pub mod TagSpellingLaws
+pub mod TagReadLaws
 pub mod TagsLaws
 pub mod MarksLaws
 pub mod HeadsAgainLaws

@@ -1,5 +1,5 @@
 -- What was written is read again: game by game.
-use Rattle.std.proofs.Common.{◌≡◌, ◌≤◌, ◌+◌, ◌-◌, ◌==◌, ◌&&◌, nat_lt, ℕ, true, false, cond, List, [], ◌∷◌, ◌++◌, map, length, drop, Some, None, is_some, All, refl, sym, ap, ◌∙◌, subst, arith, append_assoc, length-append, flat_map, fold}
+use Rattle.std.proofs.Common.{◌≡◌, ◌≤◌, ◌+◌, ◌-◌, ◌==◌, ◌&&◌, nat_lt, ℕ, true, false, cond, List, [], ◌∷◌, ◌++◌, map, length, drop, Some, None, is_some, All, refl, sym, ap, ◌∙◌, subst, arith, append_assoc, append-nil, length-append, flat_map, fold}
 use Rattle.std.proofs.lemmas.Bool.{and_parts, and_right}
 use Rattle.std.specs.List.{AllByRecursion}
 use Rattle.std.proofs.lemmas.List.Elements.{recursion_from_All}
@@ -10,6 +10,7 @@ use Rattle.game_tree.specs.declared.head.Tag.{Tag}
 use Rattle.game_tree.specs.Building.{Building, built}
 use Rattle.game_tree.specs.Comments.{with_comments}
 use Rattle.game_tree.specs.Game.{GameTree}
+use Rattle.game_tree.specs.Kept.{IsGame}
 use Rattle.game_tree.specs.Movetext.{Movetext, items_of}
 use Rattle.game_tree.specs.Written.{movetext_of_game}
 use Rattle.pgn_write.specs.Layout.{layout}
@@ -26,6 +27,7 @@ use Rattle.pgn_read.specs.Bytes.{is_white, begins}
 use Rattle.pgn_read.specs.Token as token
 use Rattle.pgn_read.specs.Lexing.{lexed}
 use Rattle.pgn_read.specs.Text.{At, here, longest, behind_gap, skipped, behind_token, passed, behind_mark, spots}
+use Rattle.pgn_read.specs.Fit.{IsFitGame}
 use Rattle.pgn_read.specs.Heads.{head_from}
 use Rattle.pgn_read.specs.Reading.{Reading, goes_on, ends_behind, effect, moving, unread, game_of}
 use Rattle.pgn_read.specs.Items.{Next, next, item_from, item_at, next_item, AreItems, text_start, PgnReads}
@@ -216,7 +218,16 @@ unfolding pgn_of
 texts_unmarked [] = refl
 texts_unmarked (g ∷ games) = refl
 
+each_read_again : (games : List Headed) → AllByRecursion IsReadAgain games → PgnReads (texts_of games) (map again games)
+each_read_again games each =
+    games_are_read games (text_start (texts_of games)) [] each (unmarked (text_start (texts_of games)) (texts_unmarked games)) refl refl
+
 pub read_again : (games : List Headed) → All IsReadAgain games → PgnReads (texts_of games) (map again games)
-read_again games each =
-    games_are_read games (text_start (texts_of games)) [] (recursion_from_All IsReadAgain games each)
-    (unmarked (text_start (texts_of games)) (texts_unmarked games)) refl refl
+read_again games each = each_read_again games (recursion_from_All IsReadAgain games each)
+
+pub one_read_again : (head : Head) (game : GameTree) → IsFitGame head game → IsGame game → length (pgn_of head game) ≤ longest
+    → PgnReads (pgn_of head game) (again (record { head = head; game = game }) ∷ [])
+one_read_again head game fit kept short =
+    let g : Headed = record { head = head; game = game } in
+    subst (λ (text : List ℕ). PgnReads text (again g ∷ [])) (append-nil (text_of g))
+    (each_read_again (g ∷ []) (record { fit = fit; kept = kept; short = short }, tt))

@@ -19,7 +19,7 @@ raw_plain b e t is rest =
     let n = or_parts (b == 34) (b == 92) is in
     rw n.0 rw n.1 (ap (λ l. b ∷ l) rest)
 
-raw_spelled : (s : Spelling) (rest : List ℕ) → IsSpelling s → raw_value false (spelled s ++ 34 ∷ rest) ≡ spelled s
+pub raw_spelled : (s : Spelling) (rest : List ℕ) → IsSpelling s → raw_value false (spelled s ++ 34 ∷ rest) ≡ spelled s
 raw_spelled done rest is = refl
 raw_spelled (byte b s) rest is = raw_plain b (spelled s) (spelled s ++ 34 ∷ rest) is.0 (raw_spelled s rest is.1)
 raw_spelled (escape b s) rest is = ap (λ l. 92 ∷ b ∷ l) (raw_spelled s rest is.1)
@@ -47,7 +47,7 @@ meant_escape b v t is rest = rw is (ap (λ l. b ∷ l) rest)
 meant_alone : (b : ℕ) (v t : List ℕ) → is_escaped b ≡ false → unescaped_from false t ≡ v → unescaped_from false (92 ∷ b ∷ t) ≡ 92 ∷ b ∷ v
 meant_alone b v t is rest = rw is (ap (λ l. 92 ∷ b ∷ l) rest)
 
-unescaped_spelled : (s : Spelling) → IsSpelling s → unescaped_from false (spelled s) ≡ said_by s
+pub unescaped_spelled : (s : Spelling) → IsSpelling s → unescaped_from false (spelled s) ≡ said_by s
 unescaped_spelled done is = refl
 unescaped_spelled (byte b s) is = meant_plain b (said_by s) (spelled s) is.0 (unescaped_spelled s is.1)
 unescaped_spelled (escape b s) is = meant_escape b (said_by s) (spelled s) is.0 (unescaped_spelled s is.1)

@@ -1,5 +1,5 @@
 -- There is an entry for each game of the base, whichever of them count.
-use Rattle.std.proofs.Common.{◌≡◌, ℕ, List, length, Option, Some, None, ap, ◌∙◌, replicate}
+use Rattle.std.proofs.Common.{◌≡◌, ℕ, List, length, Option, Some, None, ap, ◌∙◌}
 use Rattle.std.proofs.lemmas.List.{length-replicate}
 use Rattle.base_core.specs.Represents.{Kept, heads_of, sigs_of}
 use Rattle.game_filter.specs.Filter.{all_in}

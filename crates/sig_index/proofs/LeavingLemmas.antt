@@ -1,5 +1,5 @@
 -- The pawns that leave their own squares along a main line, move by move.
-use Rattle.std.proofs.Common.{◌≡◌, ℕ, ◌+◌, ◌<◌, ◌≤◌, zero, suc, Bool, true, false, cond, not, List, [], ◌∷◌, ◌++◌, Some, length, map, get_or, take, drop, refl, sym, ap, ◌∙◌, subst, arith, add-one, append_assoc, eq-eqb}
+use Rattle.std.proofs.Common.{◌≡◌, ℕ, ◌+◌, ◌<◌, ◌≤◌, zero, suc, Bool, true, false, cond, not, List, [], ◌∷◌, ◌++◌, length, map, get_or, take, drop, refl, sym, ap, ◌∙◌, subst, arith, add-one, append_assoc, eq-eqb}
 use Rattle.std.specs.Prelude.{fold, IsTrue, nat_eq, All, ◌↔◌}
 use Rattle.std.specs.List.{filter, list_all, range_with_len}
 use Rattle.std.specs.Int.{bit_at, IsBitSet}
@@ -17,7 +17,7 @@ use Rattle.chess_laws.specs.declared.setup.Setup.{Setup}
 use Rattle.chess_laws.specs.Step.{stepped}
 use Rattle.game_tree.specs.Game.{GameTree}
 use Rattle.game_tree.specs.Tree.{Line, Played, line_of, moves_of}
-use Rattle.game_tree.specs.Replay.{main_moves, position_at}
+use Rattle.game_tree.specs.Replay.{main_moves}
 use Rattle.game_tree.specs.Legal.{IsLegalGame, IsLegalLine}
 use Rattle.chess_laws.proofs.Start.{start-sound}
 use Rattle.sig_index.specs.Leaving.{AreHome, gone, staying}

@@ -1,14 +1,14 @@
 -- No move takes two pawns off their own squares: the pawn that moves, or one that is captured by a man that is no pawn at home.
-use Rattle.std.proofs.Common.{◌≡◌, ◌≢◌, ℕ, ◌+◌, ◌-◌, ◌*◌, ◌<◌, ◌≤◌, Bool, true, false, cond, not, ◌&&◌, ltb, length, Option, None, Some, refl, sym, ap, ◌∙◌, subst, arith, inl, inr}
-use Rattle.std.specs.Prelude.{◌⊎◌, Any}
+use Rattle.std.proofs.Common.{◌≡◌, ◌≢◌, ℕ, ◌-◌, ◌<◌, ◌≤◌, Bool, true, false, not, ◌&&◌, length, None, Some, refl, sym, ap, ◌∙◌, subst, arith, inl, inr}
+use Rattle.std.specs.Prelude.{◌⊎◌}
 use Rattle.std.proofs.lemmas.Bool.{and_parts, cases_eq, cases_lt, le-ltb, lt-ltb, not-true}
 use Rattle.cell_core.specs.declared.man.Colour.{Colour}
 use Rattle.cell_core.specs.declared.man.Colour.TheVariants.{White, Black}
 use Rattle.cell_core.specs.declared.man.Kind.{Kind}
-use Rattle.cell_core.specs.declared.man.Kind.TheVariants.{King, Pawn}
+use Rattle.cell_core.specs.declared.man.Kind.TheVariants.{Pawn}
 use Rattle.cell_core.specs.declared.man.Man.{Man}
 use Rattle.cell_core.specs.declared.step.Move.{Move}
-use Rattle.cell_core.specs.Board.{Men, man_at, put}
+use Rattle.cell_core.specs.Board.{man_at, put}
 use Rattle.cell_core.specs.Man.{is_man, man, other}
 use Rattle.chess_laws.specs.Castling.{king_home, king_target, rook_home, rook_target}
 use Rattle.chess_laws.specs.Counts.{is_home, home_colour, home_square}
@@ -17,7 +17,7 @@ use Rattle.chess_laws.specs.declared.effect.Effect.TheVariants.{Plain, Double, P
 use Rattle.chess_laws.specs.declared.setup.Setup.{Setup}
 use Rattle.chess_laws.specs.declared.setup.Wing.{Wing}
 use Rattle.chess_laws.specs.declared.setup.Wing.TheVariants.{KingSide, QueenSide}
-use Rattle.chess_laws.specs.Geometry.{pawn_captures, file_of, rank_of, square, Leaps}
+use Rattle.chess_laws.specs.Geometry.{file_of, rank_of, square}
 use Rattle.chess_laws.specs.Position.{Sound, HasFitEnPassant, en_passant_rank}
 use Rattle.chess_laws.specs.Step.{Case, GoesPlainly, PlainCase, Step, arriving, board_after, effect_of, moved, passed_square, pawn_rank}
 use Rattle.chess_laws.proofs.Boards.{man-colour, man-kind, put-other}

@@ -2,8 +2,7 @@
 use Rattle.std.proofs.Common.{◌≡◌, ℕ, ◌+◌, ◌-◌, ◌<◌, ◌≤◌, zero, suc, Bool, true, false, cond, not, ◌&&◌, ◌||◌, eqb, List, [], ◌∷◌, ◌++◌, length, take, refl, sym, ap, ◌∙◌, subst, arith, add-one, append_assoc, length-append}
 use Rattle.std.specs.Prelude.{fold, replicate}
 use Rattle.std.specs.Bool.{MatchBool}
-use Rattle.std.specs.Int.{bit_at}
-use Rattle.std.specs.List.{filter, list_all, list_any}
+use Rattle.std.specs.List.{list_all, list_any}
 use Rattle.std.proofs.lemmas.Bool.{and_parts}
 use Rattle.std.proofs.lemmas.List.Folds.{list_any-append}
 use Rattle.cell_core.specs.declared.step.Move.{Move}
@@ -13,7 +12,7 @@ use Rattle.chess_laws.specs.Step.{Step, stepped}
 use Rattle.chess_laws.specs.declared.setup.Setup.{Setup}
 use Rattle.game_tree.specs.Game.{GameTree}
 use Rattle.game_tree.specs.Legal.{IsLegalGame, IsLegalLine}
-use Rattle.game_tree.specs.Replay.{main_moves, plies_of, position_at}
+use Rattle.game_tree.specs.Replay.{plies_of, position_at}
 use Rattle.game_tree.specs.Tree.{Line, ends, goes, moves_of}
 use Rattle.sig_index.specs.declared.signature.HomeList.{HomeList}
 use Rattle.sig_index.specs.declared.signature.Sig.{Sig}

@@ -1,10 +1,10 @@
 -- Laws of texts of games that were written up to any place: the games before it stand whole.
-use Rattle.std.proofs.Common.{◌≡◌, ℕ, List, Option, None, Some, Result, Ok, Err, [], ◌∷◌, ◌++◌, ◌+◌, zero, suc, ◌⊎◌, inl, inr, take, refl, sym, ap, ◌∙◌, append_assoc, append-nil, add-one, subst, IfErr}
+use Rattle.std.proofs.Common.{◌≡◌, ℕ, List, Option, None, Some, Result, Ok, Err, [], ◌∷◌, ◌++◌, ◌+◌, zero, suc, ◌⊎◌, inl, inr, take, refl, sym, ap, ◌∙◌, append_assoc, append-nil, add-one, subst}
 use Rattle.base_core.specs.Base.{Held}
 use Rattle.base_files.proofs.Telling.{adds-nil, Grew-adds, Grew-refl, Grew-trans}
 use Rattle.base_files.specs.Told.{adds, Grew, IsPrefix}
 use Rattle.base_files.specs.declared.faults.Stop.TheVariants as stop
-use Rattle.command_runs.specs.Endings.{Halted, NoneLost}
+use Rattle.command_runs.specs.Endings.{NoneLost}
 use Rattle.shell_state.proofs.Causing.{fault_of_output}
 use Rattle.shell_state.specs.Ends.{IsOutput}
 use Rattle.shell_state.specs.Lines.{texts_from}

@@ -1,4 +1,4 @@
-use Rattle.std.proofs.Common.{refl, sym, subst, ap, ◌∙◌, ◌≡◌, is_some}
+use Rattle.std.proofs.Common.{refl, sym, subst, ap, ◌∙◌, is_some}
 use Rattle.sig_index.specs.Signature.{IsSig}
 use Rattle.sig_index.specs.declared.signature.Sig.{Sig}
 use Rattle.game_codec.proofs.RecordAnswerLaws.{record-unbroken}

@@ -3,7 +3,7 @@ use Rattle.game_tree.specs.Replay.{plies_of}
 use Rattle.sig_index.specs.Games.{head_in}
 use Rattle.sig_index.proofs.ReadLemmas.{front_is, game_read}
 use Rattle.book_pages.specs.declared.counting.Counted.{Counted}
-use Rattle.book_pages.specs.Keeping.{AreMet, counted_of}
+use Rattle.book_pages.specs.Keeping.{AreMet}
 use Rattle.book_pages.proofs.GameLemmas.{counted_in}
 use Rattle.book_pages.proofs.book.count_game.Goals as goal
 

@@ -1,10 +1,8 @@
-use Rattle.std.proofs.Common.{◌≡◌, ◌<◌, ℕ, None, Some, sym, ap, ◌∙◌, subst, arith}
+use Rattle.std.proofs.Common.{◌≡◌, ◌<◌, ℕ, sym, ap, ◌∙◌, subst}
 use Rattle.cell_core.specs.declared.man.Colour.{Colour}
-use Rattle.cell_core.specs.declared.step.Move.{Move}
-use Rattle.chess_laws.specs.Position.{Sound}
 use Rattle.chess_laws.specs.Step.{Step}
 use Rattle.chess_laws.specs.declared.setup.Setup.{Setup}
-use Rattle.game_tree.specs.Replay.{next_at, position_at}
+use Rattle.game_tree.specs.Replay.{position_at}
 use Rattle.sig_index.proofs.RecordLemmas.{game_legal, game_sound}
 use Rattle.book_pages.specs.Keeping.{men_in}
 use Rattle.book_pages.proofs.BoardLemmas.{no_more}

@@ -1,4 +1,3 @@
-use Rattle.base_files.specs.Told.{adds}
 use Rattle.pgn_read.specs.Items.{items_of}
 use Rattle.intake_commands.proofs.PagingLaws.{page_unwritten, page_written}
 use Rattle.intake_commands.proofs.importing.take_all.Goals as goal

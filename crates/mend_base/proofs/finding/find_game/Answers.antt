@@ -1,4 +1,4 @@
-use Rattle.std.proofs.Common.{◌≡◌, ◌≤◌, ◌+◌, ℕ, false, take, sym, ◌∙◌, subst, arith}
+use Rattle.std.proofs.Common.{ℕ, false, take, sym, ◌∙◌, subst, arith}
 use Rattle.std.proofs.lemmas.Bool.{ltb-false}
 use Rattle.base_files.specs.Told.{Tells, part_told}
 use Rattle.index_entry.specs.Index.{entry_bytes}

@@ -1,4 +1,4 @@
-use Rattle.std.proofs.Common.{◌≡◌, List, ℕ, None, Some, Ok, sym, ap, ◌∙◌, subst}
+use Rattle.std.proofs.Common.{None, Some, ap, ◌∙◌}
 use Rattle.index_entry.specs.Entry.{entry_read}
 use Rattle.mend_base.proofs.FindLaws.{checked-at}
 use Rattle.mend_base.proofs.finding.placed_entry.Goals as goal

@@ -1,14 +1,6 @@
-use Rattle.std.proofs.Common.{◌≡◌, List, ℕ, [], Option, Some, IfSome, length, take, refl, sym, ap, subst}
+use Rattle.std.proofs.Common.{take, ap}
 use Rattle.base_files.specs.Seen.{Seen}
-use Rattle.block_store.specs.Placing.{end_after}
-use Rattle.name_base.specs.PartNames.{filled_names}
-use Rattle.base_core.specs.Edited.{full_names, or_file}
-use Rattle.base_core.specs.Edits.{names_with}
-use Rattle.base_core.specs.Entries.{head_of}
-use Rattle.mend_base.specs.Finding.{Finds, KeepsWhole}
-use Rattle.mend_base.specs.Keeping.{FillsNext, MendsNext}
-use Rattle.mend_base.specs.Notes.{with_notes}
-use Rattle.mend_base.specs.Places.{note_of, note_of_missing}
+use Rattle.mend_base.specs.Finding.{Finds}
 use Rattle.mend_base.specs.declared.finding.Find.TheVariants as find
 use Rattle.mend_base.proofs.DeviceLaws.{on-ok-so, stopped-weaker}
 use Rattle.mend_base.proofs.MendLaws.{filled-told, kept-told, left-out-told}

@@ -1,4 +1,4 @@
-use Rattle.std.proofs.Common.{◌≡◌, ◌≤◌, ◌+◌, List, ℕ, length, take, sym, ap, ◌∙◌, arith}
+use Rattle.std.proofs.Common.{List, ℕ, take, sym, ap, ◌∙◌, arith}
 use Rattle.std.proofs.lemmas.Bool.{ltb-false, ltb-true}
 use Rattle.index_entry.specs.Index.{entry_bytes}
 use Rattle.mend_base.proofs.FindLaws.{ends-in}

@@ -1,4 +1,4 @@
-use Rattle.std.proofs.Common.{◌≡◌, ◌≤◌, ◌+◌, List, ℕ, [], Option, IfSome, length, refl, sym, ap, ◌∙◌, subst, arith}
+use Rattle.std.proofs.Common.{◌≡◌, ◌+◌, List, ℕ, [], Option, IfSome, length, refl, sym, ap, ◌∙◌, subst, arith}
 use Rattle.base_files.specs.Seen.{Seen, told_instead}
 use Rattle.base_core.specs.Represents.{Kept}
 use Rattle.mend_base.specs.Keeping.{MendsNext}

@@ -1,4 +1,3 @@
-use Rattle.std.proofs.Common.{Some}
 use Rattle.pos_search.proofs.WalkLemmas.{hit_here, legal_hit}
 use Rattle.pos_search.proofs.walking.with_next.Goals as goal
 

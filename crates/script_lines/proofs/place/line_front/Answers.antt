@@ -1,4 +1,4 @@
-use Rattle.std.proofs.Common.{arith, refl, sym, ◌+◌, ◌<◌, length, true, false, ap, ◌∙◌}
+use Rattle.std.proofs.Common.{arith, refl, sym, ◌+◌, ◌<◌, length, true, false, ◌∙◌}
 use Rattle.script_lines.proofs.BodyLaws.{behind_feed, feed_inside, too_long, word_at, word_kept}
 use Rattle.script_lines.proofs.ScriptLaws.{feed_at_position}
 use Rattle.script_lines.proofs.place.line_front.Goals as goal

@@ -1,6 +1,6 @@
 use Rattle.std.proofs.Common.{List, ℕ, ◌++◌, refl, ap, ◌∙◌}
 use Rattle.pgn_write.specs.Pgn.{pgn_of}
-use Rattle.shell_state.proofs.PassingLaws.{asked_at, least_at}
+use Rattle.shell_state.proofs.PassingLaws.{least_at}
 use Rattle.text_commands.proofs.GameTextLaws.{is_text_of, text_read}
 use Rattle.text_commands.proofs.game_texts.read_behind.Goals as goal
 

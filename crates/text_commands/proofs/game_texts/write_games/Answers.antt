@@ -1,4 +1,3 @@
-use Rattle.base_files.specs.Told.{adds}
 use Rattle.text_commands.proofs.CutLaws.{page_unwritten, page_written}
 use Rattle.text_commands.proofs.ShownLaws.{puts_page}
 use Rattle.text_commands.proofs.game_texts.write_games.Goals as goal

@@ -1,4 +1,4 @@
-use Rattle.std.proofs.Common.{◌≡◌, ◌≤◌, ◌+◌, ap, ◌∙◌, refl, sym, subst, take, Some, slice_get, arith}
+use Rattle.std.proofs.Common.{◌≡◌, ◌≤◌, ◌+◌, ◌∙◌, refl, sym, subst, take, arith}
 use Rattle.std.proofs.lemmas.Option.{same_Some}
 use Rattle.base_files.specs.declared.extent.Extent.{Extent}
 use Rattle.base_files.specs.Told.{Tells, part_told}

@@ -1,4 +1,4 @@
-use Rattle.std.proofs.Common.{◌≡◌, ◌∙◌, ap, sym, subst, arith, length}
+use Rattle.std.proofs.Common.{◌∙◌, ap, sym, length}
 use Rattle.book_pages.proofs.GameLemmas.{shown, written}
 use Rattle.book_pages.proofs.book.Book.read.Goals as goal
 

@@ -1,4 +1,4 @@
-use Rattle.std.proofs.Common.{◌≡◌, Some, ap, sym, ◌∙◌, arith, rules, get_or}
+use Rattle.std.proofs.Common.{◌≡◌, Some, ap, ◌∙◌, rules, get_or}
 use Rattle.std.specs.Prelude.{slice_get}
 use Rattle.std.proofs.lemmas.Option.{slice_get-get_or}
 use Rattle.book_pages.proofs.GameLemmas.{keys_are}

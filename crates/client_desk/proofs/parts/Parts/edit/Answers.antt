@@ -1,4 +1,4 @@
-use Rattle.std.proofs.Common.{◌≡◌, ℕ, List, Option, Some, length, slice_get, sym, ap, subst, ◌∙◌}
+use Rattle.std.proofs.Common.{◌≡◌, ℕ, List, Option, Some, length, slice_get, ap, subst, ◌∙◌}
 use Rattle.client_desk.specs.Seats.{Seated}
 use Rattle.client_desk.proofs.SeatLaws.{tells-edited, told-edited, few-edited}
 use Rattle.client_desk.proofs.parts.Parts.edit.Goals as goal

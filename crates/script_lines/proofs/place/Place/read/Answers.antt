@@ -1,8 +1,7 @@
-use Rattle.std.proofs.Common.{arith, ◌≤◌, ◌-◌, [], length, take, min, refl}
+use Rattle.std.proofs.Common.{arith, ◌≤◌, ◌-◌, [], length, take, refl}
 use Rattle.std.proofs.lemmas.List.{length-take}
 use Rattle.script_lines.specs.Fronts.{within}
 use Rattle.script_lines.specs.Script.{longest_script}
-use Rattle.script_lines.specs.declared.place.At.TheVariants.{Behind}
 use Rattle.script_lines.proofs.PlaceLaws.{ended_left, given_left, looked, looked_free, looked_open, looked_stands, over_left}
 use Rattle.script_lines.proofs.StandingLaws.{end_fits, standing_at, standing_ended, standing_given, standing_over, standing_stuck}
 use Rattle.script_lines.proofs.place.Place.read.Goals as goal

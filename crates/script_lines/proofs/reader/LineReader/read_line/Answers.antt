@@ -1,5 +1,5 @@
 use Rattle.std.proofs.Common.{arith, ap, length, [], ◌∙◌}
-use Rattle.script_lines.proofs.ReadingLaws.{never_open, took_filled, took_rest, took_twice, unasked_still}
+use Rattle.script_lines.proofs.ReadingLaws.{never_open, took_filled, took_rest, took_twice}
 use Rattle.script_lines.proofs.reader.LineReader.read_line.Goals as goal
 
 pub returns-in-Ok-Ended-clause-line : goal.returns-in-Ok-Ended-clause-line
