@@ -270,6 +270,17 @@ COMMENTS = [
     ("{alone}", ["imported 0 refused 0"], None),
 ]
 
+# How many players there are, how often the first is used and each other, and how their part of the names file begins: an id takes two bytes,
+# and three where there are more than 65,535 names; a frequency one, two or three, by the greatest.
+WIDTHS = [
+    (2, 255, 1, "0000 ff 06 303030303030 0001 01 06 05 31"),
+    (2, 256, 2, "0000 0100 06 303030303030 0001 0002 06 05 31"),
+    (2, 65_535, 1, "0000 ffff 06 303030303030 0001 0001 06 05 31"),
+    (2, 65_536, 2, "0000 010000 06 303030303030 0001 000002 06 05 31"),
+    (65_535, 2, 1, "0000 02 06 303030303030 0001 01 06 05 31"),
+    (65_536, 257, 1, "000000 0101 06 303030303030 000001 0001 06 05 31"),
+]
+
 
 def base(record=made.VIENNA_RECORD, entry=made.VIENNA, names=NAMES):
     return made.index([entry]), names, record
@@ -399,6 +410,20 @@ def names():
         refused_names(NAMES[:length], f"{place}: the file ends too early")
 
 
+def widths():
+    for players, first, other, begins in WIDTHS:
+        uses = [0] * first + [player for player in range(1, players) for _ in range(other)]
+        games = "".join(f'[White "{white:06}"]\n[Black "{black:06}"]\n\n*\n' for white, black in zip(uses[::2], uses[1::2]))
+        with tempfile.TemporaryDirectory() as folder:
+            script = f"import <<X\n{games}X\nsave\n".encode()
+            subprocess.run([PROGRAM, "--create", "base"], cwd=folder, input=script, stdout=subprocess.DEVNULL, check=True, timeout=60)
+            files = [pathlib.Path(folder, f"base.{end}").read_bytes() for end in ("si4", "sn4", "sg4")]
+        wanted = bytes.fromhex(begins)
+        look(f"the names of {players} players", files[1][36 : 36 + len(wanted)], wanted)
+        counts = f"games {len(uses) // 2} deleted 0 players {players} events 1 sites 1 rounds 1 unsaved no index off"
+        look(f"a base of {players} players", run(files, "info\n", "--strict")[:3], (0, [counts], ""))
+
+
 def shown(date, tags, movetext, head=("?", "?", "?", "?", "?")):
     """What `show` writes of a game with no known result."""
     event, site, names_round, white, black = head
@@ -421,7 +446,7 @@ def texts():
 
 
 def main():
-    for part in (records, longest_record, walks, entries, indexes, names, texts):
+    for part in (records, longest_record, walks, entries, indexes, names, widths, texts):
         part()
         print(f"{part.__name__}: ok")
 
