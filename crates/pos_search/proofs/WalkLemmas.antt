@@ -12,6 +12,7 @@ use Rattle.game_tree.specs.Legal.{IsLegalGame}
 use Rattle.game_tree.specs.Replay.{next_at, plies_of, position_at}
 use Rattle.sig_index.specs.declared.pos_query.PosQuery.{PosQuery}
 use Rattle.sig_index.proofs.Ranges.{find_first, find_none}
+use Rattle.pos_index.proofs.LegalMoves.{legal_on}
 use Rattle.pos_search.specs.Matching.{IsLegalFrom, first_on_main, hit_on_main, matches, matches_at}
 use Rattle.pos_search.specs.Sought.{can_follow}
 use Rattle.pos_search.proofs.FollowLemmas.{none_follows}
@@ -76,7 +77,8 @@ legal_hit query p q ply next sound holds steps k m exact same =
     let pair : (ply, next) ≡ (k, Some m) = cc in
     let is : next ≡ Some m = ap (λ (t : ℕ × Option Move). t.1) pair in
     let found = matched query p holds in
-    record { position = p; sound = sound; stands = λ j. packed_of (found.exact exact j) (found.side j); legal = (q, steps m is) }
+    let here : packed_of p.board p.side ≡ packed_of query.board query.side = λ j. packed_of (found.exact exact j) (found.side j) in
+    legal_on p (packed_of query.board query.side) m sound (sym here) (q, steps m is)
 
 -- No match has no move.
 pub legal_none : (query : PosQuery) → IsLegalFrom query None
