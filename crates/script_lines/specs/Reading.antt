@@ -20,10 +20,6 @@ pub record Reader : Type 0 where
 abbrev pub most_kept : ℕ
 most_kept = 65541
 
--- How many bytes are read at once.
-abbrev pub piece_len : ℕ
-piece_len = 32768
-
 -- So many bytes more.
 abbrev pub grown : ℕ → Script → Script
 grown count s = script s.tasks (count + s.size)

@@ -76,3 +76,7 @@ whole_lines desk bytes = (script_by (λ _. []) (new_clients desk) bytes).tasks
 -- The most bytes that a script may have.
 abbrev pub longest_script : ℕ
 longest_script = 1073741824
+
+-- The most bytes that are read at once.
+abbrev pub piece_len : ℕ
+piece_len = 32768

@@ -5,8 +5,8 @@ ghost use Rattle.base_files.specs.Told.{before, Tells};
 ghost use Rattle.script_text.specs.Sound.{IsSoundLine};
 ghost use Rattle.script_lines.specs.Bodies.{feed_at};
 ghost use Rattle.script_lines.specs.Clients.{line_of};
-ghost use Rattle.script_lines.specs.Reading.{TookPart, TookLine, TookLast, SaysLast, IsFull, Stuck, most_kept, piece_len};
-ghost use Rattle.script_lines.specs.Script.{longest_script};
+ghost use Rattle.script_lines.specs.Reading.{TookPart, TookLine, TookLast, SaysLast, IsFull, Stuck, most_kept};
+ghost use Rattle.script_lines.specs.Script.{longest_script, piece_len};
 
 use crate::line::{Line, read_line};
 use base_files::{Failed, Source};
@@ -37,8 +37,8 @@ pub struct LineReader {
 
 impl Model for LineReader {
     ghost use Rattle.std.specs.Prelude.{◌≡◌, ◌≤◌, length, take, drop};
-    ghost use Rattle.script_lines.specs.Reading.{Reader, piece_len, most_kept};
-    ghost use Rattle.script_lines.specs.Script.{longest_script};
+    ghost use Rattle.script_lines.specs.Reading.{Reader, most_kept};
+    ghost use Rattle.script_lines.specs.Script.{longest_script, piece_len};
 
     ghost Value = { Reader };
 

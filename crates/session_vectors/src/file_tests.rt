@@ -138,6 +138,11 @@ const MATERIAL: Run<'static> = Run {
     ..EXPORT
 };
 
+const TREE: Run<'static> = Run {
+    script: b"tree rnbqkbnr/pppppppp/8/8/8/8/PPPPPPPP/RNBQKBNR w\n",
+    ..EXPORT
+};
+
 const TAG: Run<'static> = Run {
     script: b"tag 0 White A\n",
     ..EXPORT
@@ -165,7 +170,7 @@ const ONE_LINE: &[u8] = b"base 2 games 0 mended\n";
 /// first match, so it meets what changes before that alone; that of `demo` is met at the start, and the tree behind it reads the first move.
 type Change = (Run<'static>, Swap, bool, &'static [u8]);
 
-const CHANGES: [Change; 9] = [
+const CHANGES: [Change; 10] = [
     (COMPACT, ANOTHER, true, b"base 1 games 0 mended\n"),
     (SHOW, NO_END, false, b"base 1 games 0 mended\n"),
     (
@@ -177,6 +182,7 @@ const CHANGES: [Change; 9] = [
     (FIND, NO_MOVE, false, b"base 1 games 0 mended\n"),
     (POSITION, NO_MOVE, false, b"base 1 games 0 mended\n"),
     (MATERIAL, NO_MOVE, false, b"base 1 games 0 mended\n"),
+    (TREE, NO_MOVE, false, b"base 1 games 0 mended\n"),
     (TAG, ANOTHER, true, b"base 1 games 0 mended\n"),
     (
         DEMO,

@@ -29,8 +29,8 @@ use Rattle.desk_commands.specs.Views.{line_told}
 use Rattle.script_lines.specs.Bodies.{Body, body_of}
 use Rattle.script_lines.specs.Bytewise.{script_from}
 use Rattle.script_lines.specs.Clients.{Clients, Tagged, heard, is_end, is_quit, tagged_task}
-use Rattle.script_lines.specs.Reading.{Reader, grown, led_on, piece_len}
-use Rattle.script_lines.specs.Script.{Script, at_end, led_by, longest_script, script}
+use Rattle.script_lines.specs.Reading.{Reader, grown, led_on}
+use Rattle.script_lines.specs.Script.{Script, at_end, led_by, longest_script, piece_len, script}
 use Rattle.script_lines.specs.Standing.{IsBegun, NoEnd, Standing, is_open, left_of, rest_told, start_at}
 use Rattle.script_lines.specs.declared.line.Line.{Line}
 use Rattle.script_lines.specs.declared.place.At.{At}

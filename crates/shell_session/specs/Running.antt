@@ -16,7 +16,7 @@ use Rattle.desk_commands.specs.Views.{line_told}
 use Rattle.script_lines.specs.Bytewise.{script_from}
 use Rattle.script_lines.specs.Clients.{Tagged, new_clients, said, tagged_task}
 use Rattle.script_lines.specs.Reading.{Reader, grown, led_on}
-use Rattle.script_lines.specs.Script.{Script, at_end, led_by, longest_script, script}
+use Rattle.script_lines.specs.Script.{Script, at_end, led_by, longest_script, piece_len, script}
 use Rattle.script_lines.specs.declared.line.Line.{Line}
 use Rattle.script_lines.specs.declared.place.At.{At}
 use Rattle.script_lines.specs.declared.place.At.TheVariants.{Behind}
@@ -152,7 +152,7 @@ pub record Finished (line : Line) (d : Desk) (ahead : List ℕ) (used : ℕ) (he
   pub within : used + size ≤ longest_script
   pub left : Some ahead ≡ before front l'
   pub enough : size ≤ length front
-  pub no_further : length front ≤ size + 32768
+  pub no_further : length front ≤ size + piece_len
   pub asks : a' ≤ a + price_all d lasts
 
 -- A body was read, and the reader is given back where a line ended it; else the input did.

@@ -15,7 +15,7 @@ use Rattle.desk_commands.specs.Desk.{Desk, desk_begin, desks, seen_by}
 use Rattle.desk_commands.specs.Standing.{effective, line_left, line_price}
 use Rattle.desk_commands.specs.Views.{line_told, line_watches}
 use Rattle.script_lines.specs.Clients.{Tagged, said}
-use Rattle.script_lines.specs.Script.{longest_script, script_len, script_of, whole_lines}
+use Rattle.script_lines.specs.Script.{longest_script, piece_len, script_len, script_of, whole_lines}
 use Rattle.shell_commands.specs.Tasks.{order_work}
 use Rattle.shell_state.specs.Carrying.{AreLeft, Settled, StillCarry}
 use Rattle.shell_state.specs.Slots.{slot_at}
@@ -82,7 +82,7 @@ pub record RanAll (d : Desk) (script : List ℕ) (told : Option (List ℕ)) (tol
   pub front : List ℕ
   pub read : Some script ≡ before front later
   pub enough : script_len d.clients.tagged script ≤ length front
-  pub no_further : length front ≤ script_len d.clients.tagged script + 32768
+  pub no_further : length front ≤ script_len d.clients.tagged script + piece_len
   pub files : AreLeft around'.seen (after_all desks d (script_of d.clients.tagged script)).shared.carried (after_all desks d (script_of d.clients.tagged script)).shared.unsaved
   pub views :
       AreBeside (record around' { most = λ k. around'.most k + summed (λ d next. line_told d next k) d (script_of d.clients.tagged script) })
