@@ -3,6 +3,7 @@
 
 Usage: cases/real_files.py [PROGRAM]
 """
+import fcntl
 import itertools
 import os
 import re
@@ -23,6 +24,7 @@ BAD_BASE = 2
 FILES_FAULT = 5
 CHANGED_GAME = 6
 CHANGED = "another program changed it"
+BUSY = "another run saves or compacts this base"
 IN_THE_WAY = "it is in the way"
 
 
@@ -96,6 +98,19 @@ def a_changed_file_is_never_saved_over(folder):
         assert status == FILES_FAULT and f"{path}: {CHANGED}" in errors, (ending, how, what, errors)
         assert contents(folder) == then, (ending, how, what)
         clear(folder)
+
+
+def a_base_that_another_run_holds_stays(folder):
+    """A base whose games file another program has locked is not changed."""
+    base = make_base(folder)
+    then = contents(folder)
+    with open(f"{base}.sg4", "rb") as games:
+        fcntl.flock(games, fcntl.LOCK_EX)
+        for what in ("save", "compact"):
+            status, output, errors = run(base, f"delete 1\n{what}\n")
+            assert (status, output) == (FILES_FAULT, "base 4 games 0 mended\ndeleted 1\n"), (status, output)
+            assert BUSY in errors and contents(folder) == then, errors
+    assert run(base, "delete 1\nsave\n")[0] == 0
 
 
 def clear(folder):
@@ -413,25 +428,74 @@ def an_error_at_each_call(folder, what, answer, edits):
     return f"{len(tried)} calls of {what}"
 
 
+def held_back(base, call, when=""):
+    """A session that strace holds back for half a second before each call of the system of this name, or before those that `when` tells."""
+    return Session(base, ["strace", "-qq", "-f", "-o", "/dev/null", "-e", f"inject={call}:delay_enter=500000{when}"])
+
+
+def begin(session, line):
+    """Hands a command on, whose answer is not waited for."""
+    session.process.stdin.write(line + "\n")
+    session.process.stdin.flush()
+
+
+def ends_with(session, fault, folder, then):
+    """The session ends with a fault of the files and no line, and leaves the files as they were."""
+    assert session.process.stdout.readline() == ""
+    status, errors = session.end()
+    assert status == FILES_FAULT and fault in errors, (status, errors)
+    assert contents(folder) == then, contents(folder).keys()
+
+
+def wait_for(path):
+    """Waits until the file is there and has bytes."""
+    end = time.monotonic() + 30
+    while not (path.exists() and path.stat().st_size) and time.monotonic() < end:
+        time.sleep(0.01)
+
+
 def a_new_file_that_grows_takes_no_place(folder):
-    """A new games file to which another program adds a byte before it is handed on to the disk: it goes, and the base stays as it was. strace holds
-    the program back there for a second."""
+    """A new games file to which another program adds a byte before it is handed on to the disk: it goes, and the base stays as it was."""
     base = make_base(folder)
     new = Path(f"{base}.sg4.new")
-    session = Session(base, ["strace", "-qq", "-f", "-o", "/dev/null", "-e", "inject=fsync:delay_enter=1000000:when=1"])
+    session = held_back(base, "fsync", ":when=1")
     session.ask("delete 1")
     then = contents(folder)
-    session.process.stdin.write("compact\n")
-    session.process.stdin.flush()
-    end = time.monotonic() + 30
-    while not (new.exists() and new.stat().st_size) and time.monotonic() < end:
-        time.sleep(0.01)
+    begin(session, "compact")
+    wait_for(new)
     with new.open("ab") as file:
+        file.write(b"x")
+    ends_with(session, f"{new}: {CHANGED} while it was made", folder, then)
+
+
+def a_file_that_changes_while_another_is_made_stays(folder):
+    """An index that another program touches while the new one is handed on to the disk: nothing takes its place, and no new file is left."""
+    base = make_base(folder)
+    index, new = Path(f"{base}.si4"), Path(f"{base}.si4.new")
+    for what in ("save", "compact"):
+        session = held_back(base, "fsync")
+        session.ask("delete 1")
+        then = contents(folder)
+        begin(session, what)
+        wait_for(new)
+        os.utime(index)
+        ends_with(session, f"{index}: {CHANGED}", folder, then)
+
+
+def an_addition_behind_another_ones_is_none(folder):
+    """A byte that another program adds to the games file right before a record is written there: the record is at no place of the base's."""
+    base = make_base(folder)
+    games, old = Path(f"{base}.sg4"), heads(base)
+    # The first write is the opening line, and the second the record.
+    session = held_back(base, "write", ":when=2")
+    begin(session, "tag 0 White C")
+    time.sleep(0.2)
+    with games.open("ab") as file:
         file.write(b"x")
     assert session.process.stdout.readline() == ""
     status, errors = session.end()
-    assert status == FILES_FAULT and f"{new}: {CHANGED} while it was made" in errors, (status, errors)
-    assert contents(folder) == then
+    assert status == FILES_FAULT and f"{games}: {CHANGED}" in errors, (status, errors)
+    assert heads(base) == old
 
 
 def files_are_handed_on_in_order(folder):
@@ -533,6 +597,7 @@ def launched(clone, base, script):
 def main():
     shows = [
         (a_changed_file_is_never_saved_over,),
+        (a_base_that_another_run_holds_stays,),
         (two_programs_in_turn,),
         (files_of_the_user_stay,),
         (modes_and_links_stay,),
@@ -550,6 +615,8 @@ def main():
             (files_are_handed_on_in_order,),
             (a_thousand_games_take_few_calls,),
             (a_new_file_that_grows_takes_no_place,),
+            (a_file_that_changes_while_another_is_made_stays,),
+            (an_addition_behind_another_ones_is_none,),
             (an_error_at_each_call, "save", "saved", ["tag 0 White C"]),
             (an_error_at_each_call, "compact", "compacted", ["delete 1", "tag 0 White C"]),
             (an_end_at_each_call, "save", "saved", ["tag 0 White C"]),

@@ -1,7 +1,7 @@
 //! A game in memory, and the games file that holds its record.
-ghost use Rattle.std.specs.Prelude.{◌≡◌, [], IfOk};
+ghost use Rattle.std.specs.Prelude.{◌≡◌, [], length, IfOk};
 ghost use Rattle.sig_index.specs.Games.{AreWithin};
-ghost use Rattle.sig_index.specs.MemGames.{extents_of};
+ghost use Rattle.sig_index.specs.MemGames.{extents_of, sigs_of};
 
 use base_files::{Files, MemFiles, Swap};
 use cell_core::Text;
@@ -43,6 +43,7 @@ fn no_head(alloc: Global) -> Head
 
 /// The game of a record, and files of which the length is known and these bytes change.
 pub fn one_game(alloc: Global, record: &'static [u8], swaps: Vec<Swap>) -> Result<(MemGames, MemFiles), Fail>
+    ensures one { IfOk result (λ held. length (sigs_of held.0) ≡ 1) }
     ensures within { IfOk result (λ held. AreWithin held.1.known (extents_of held.0)) }
 {
     let (game, _) = decode_game(alloc, record.split_at(record.len().min(100)).0)?;
