@@ -3,7 +3,7 @@ use super::one_game::one_game;
 use base_files::Swap;
 use cell_core::Colour;
 use chess_text::read_board;
-use game_codec::{RecordFault, RecordWhat, Walk};
+use game_codec::{AllWalk, RecordFault, RecordWhat, Walk};
 use move_codec::MoveFault;
 use pos_search::{Mode, PosQuery, first_match, hit};
 use sig_index::FetchError;
@@ -18,9 +18,37 @@ const KINGS_PAWN: &[u8] = b"rnbqkbnr/pppppppp/8/8/4P3/8/PPPP1PPP/RNBQKBNR";
 // 1. e4 e5.
 const RECORD: &[u8] = b"\x00\x00\xcf\xcf\x0f";
 
+/// Bytes, and the place and the name of what a walk meets there.
+type Broken = (&'static [u8], u32, RecordWhat);
+
+const BROKEN: [Broken; 6] = [
+    // The end of a variation in the main line, and the end of the game in a variation.
+    (b"\x00\x00\xcf\x0e\x0f", 3, RecordWhat::Mark),
+    (b"\x00\x00\xcf\x0d\xbf\x0f\x0f", 5, RecordWhat::Mark),
+    // No number of a NAG, no end of a variation, no end of the game.
+    (b"\x00\x00\xcf\x0b", 4, RecordWhat::Short),
+    (b"\x00\x00\xcf\x0d\xbf", 5, RecordWhat::Short),
+    (b"\x00\x00\xcf", 3, RecordWhat::Short),
+    // A king's step from the board.
+    (b"\x00\x00\x01\x0f", 2, RecordWhat::Move(MoveFault::Value)),
+];
+
 // What a walk along the main line of these bytes meets.
 fn met(bytes: &'static [u8]) -> Result<Option<RecordFault>, Fail> {
     let mut walk = Walk::new(bytes.split_at(bytes.len().min(100)).0)?;
+    for _ in 0..100u32 {
+        match walk.step() {
+            Ok(Some(_)) => {}
+            Ok(None) => return Ok(None),
+            Err(fault) => return Ok(Some(fault)),
+        }
+    }
+    Ok(None)
+}
+
+// What a walk along all lines meets.
+fn met_in_lines(bytes: &'static [u8]) -> Result<Option<RecordFault>, Fail> {
+    let mut walk = AllWalk::new(bytes.split_at(bytes.len().min(100)).0)?;
     for _ in 0..100u32 {
         match walk.step() {
             Ok(Some(_)) => {}
@@ -36,17 +64,15 @@ fn fault(place: u32, what: RecordWhat) -> Option<RecordFault> {
 }
 
 #[test]
-fn a_walk_tells_what_it_meets_and_where(rt: HostRuntime) -> Result<(), Fail> {
-    // The end of a variation in the main line, and the end of the game in a variation.
-    assert!(rt; met(b"\x00\x00\xcf\x0e\x0f")? == fault(3, RecordWhat::Mark));
-    assert!(rt; met(b"\x00\x00\xcf\x0d\xbf\x0f\x0f")? == fault(5, RecordWhat::Mark));
-    // No number of a NAG, no end of a variation, no end of the game.
-    assert!(rt; met(b"\x00\x00\xcf\x0b")? == fault(4, RecordWhat::Short));
-    assert!(rt; met(b"\x00\x00\xcf\x0d\xbf")? == fault(5, RecordWhat::Short));
-    assert!(rt; met(b"\x00\x00\xcf")? == fault(3, RecordWhat::Short));
-    // A king's step from the board.
-    assert!(rt; met(b"\x00\x00\x01\x0f")? == fault(2, RecordWhat::Move(MoveFault::Value)));
-    assert!(rt; met(b"\x00\x00\xcf\x0f")?.is_none());
+fn walks_tell_what_they_meet_and_where(rt: HostRuntime) -> Result<(), Fail> {
+    for (bytes, place, what) in &BROKEN {
+        assert!(rt; met(bytes)? == fault(*place, *what));
+        assert!(rt; met_in_lines(bytes)? == fault(*place, *what));
+    }
+    // A king's step in a variation.
+    let aside = b"\x00\x00\xcf\x0d\x01\x0e\xcf\x0f";
+    assert!(rt; met(aside)?.is_none());
+    assert!(rt; met_in_lines(aside)? == fault(4, RecordWhat::Move(MoveFault::Value)));
     Ok(())
 }
 

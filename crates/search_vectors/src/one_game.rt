@@ -42,7 +42,11 @@ fn no_head(alloc: Global) -> Head
 }
 
 /// The game of a record, and files of which the length is known and these bytes change.
-pub fn one_game(alloc: Global, record: &'static [u8], swaps: Vec<Swap>) -> Result<(MemGames, MemFiles), Fail>
+pub fn one_game(
+    alloc: Global,
+    record: &'static [u8],
+    swaps: Vec<Swap>,
+) -> Result<(MemGames, MemFiles), Fail>
     ensures one { IfOk result (λ held. length (sigs_of held.0) ≡ 1) }
     ensures within { IfOk result (λ held. AreWithin held.1.known (extents_of held.0)) }
 {
