@@ -1,5 +1,5 @@
 -- The list of legal moves that is computed is the one that `legal_moves` of a position lists.
-use Rattle.std.proofs.Common.{◌≡◌, ℕ, zero, suc, ◌+◌, ◌*◌, ◌<◌, ◌≤◌, ◌⊎◌, inl, inr, Bool, true, ◌&&◌, ◌==◌, not, List, [], ◌∷◌, ◌++◌, Option, Some, None, filter, flat_map, length, get_or, refl, sym, ◌∙◌, ap, subst, arith, All, Contains, Decides}
+use Rattle.std.proofs.Common.{◌≡◌, ℕ, zero, suc, ◌+◌, ◌*◌, ◌<◌, ◌≤◌, ◌⊎◌, inl, inr, Bool, true, ◌==◌, not, List, [], ◌∷◌, ◌++◌, Option, Some, None, filter, flat_map, length, get_or, refl, sym, ◌∙◌, ap, subst, arith, All, Contains, Decides}
 use Rattle.std.proofs.lemmas.Bool.{cases_lt, cond_both, false≢true}
 use Rattle.std.proofs.lemmas.Bool.Decides.{Decides-and, Decides-not, Decides-eqb}
 use Rattle.cell_core.specs.declared.man.Kind.{Kind}

@@ -1,5 +1,5 @@
 -- What the tokens of an item say of moves, and which game that is (PGN standard, 8.2).
-use Rattle.std.specs.Prelude.{◌≡◌, ℕ, List, [], ◌∷◌, ◌++◌, Option, Some, None, Result, Ok, Err}
+use Rattle.std.specs.Prelude.{◌≡◌, List, [], ◌∷◌, ◌++◌, Result, Ok, Err}
 use Rattle.pgn_read.specs.Lexing.{lexed}
 use Rattle.cell_core.specs.declared.step.Move.{Move}
 use Rattle.chess_text.specs.declared.fault.SanFault.{SanFault}
