@@ -7,6 +7,7 @@ The bases are put together by make_bases.py, byte by byte and by no code of the 
 change of a base, the lines that scid_mend writes, its status, and the lines of `list` over the new base. A row passes where these are so, the
 old files are as they were, and scid_shell opens the new base with `--strict` and mends nothing.
 """
+import shutil
 import subprocess
 import sys
 import tempfile
@@ -18,7 +19,7 @@ import make_bases as made  # noqa: E402
 TOP = Path(__file__).resolve().parent.parent
 PROGRAMS = ("scid_shell", "scid_mend")
 ENDINGS = ("si4", "sn4", "sg4")
-FILES_FAULT, USAGE, BAD_INDEX = 5, 9, 2
+FILES_FAULT, USAGE, BAD_INDEX, NOT_ALL = 5, 9, 2, 11
 
 
 def programs():
@@ -59,6 +60,13 @@ def several():
 MANY = several()
 MANY_LISTED = ["0 0 1-0 ????.??.?? - Adams - Baker", "1 0 0-1 ????.??.?? - Baker - Clark", "2 0 1/2-1/2 ????.??.?? - Clark - Davis",
                "3 0 * 2000.05.10 - Davis - Adams"]
+
+
+def renumbered(lines, first):
+    """These lines of `list` with the numbers from this one on."""
+    return [f"{first + i} {line.split(' ', 1)[1]}" for i, line in enumerate(lines)]
+
+
 # Where the entry of game i begins, and where its record does.
 ENTRIES = 182
 RECORDS = [0, 4, 8]
@@ -84,54 +92,96 @@ def entry_of_one(place, new):
     return with_bytes(ONE, INDEX, ENTRIES + place, new)
 
 
-def left_out(fault, of=1):
-    return [f"left out 0: {fault}"], f"mended 0 of {of} games", 1, []
+def mended(lines, came, of, listed, changed=0):
+    """What a row wants: these lines, and so many games that came over of so many, some of them changed, as `list` shows them."""
+    status = NOT_ALL if came < of or changed else 0
+    return lines, f"mended {came} of {of} games, {changed} changed", status, listed
+
+
+def left_out(fault):
+    return mended([f"left out 0: {fault}"], 0, 1, [])
 
 
 def unnamed(fields, listed):
-    return [f"changed 0: index file: entry of game 0: no {fields} has its id"], "mended 1 of 1 games", 0, [listed]
+    return mended([f"changed 0: index file: entry of game 0: no {fields} has its id"], 1, 1, [listed], changed=1)
+
+
+def too_few(length):
+    return f"index file: an index of {length} bytes, which are too few for its games"
+
+
+def counted(count, base=None):
+    """The base with another count of games in its header."""
+    return with_bytes(MANY if base is None else base, INDEX, 14, count.to_bytes(3, "big"))
 
 
 # A base with a null move in check, as Scid writes it: 1. e4 e5 2. Qh5 Nc6 3. Qxf7+ and a null move of Black.
 E4_E5_QH5 = b"\xcf\xcf\x43\x67"
 CHECKED = made.game(E4_E5_QH5 + b"\x22" + b"\x47\x75" + b"\x00")
 
+WHOLE = mended([], 4, 4, MANY_LISTED)
+LENGTH = len(MANY[INDEX])
+NO_NAMES = [f"{game} 0 {result} {date} - ? - ?" for game, result, date in
+            ((0, "1-0", "????.??.??"), (1, "0-1", "????.??.??"), (2, "1/2-1/2", "????.??.??"), (3, "*", "2000.05.10"))]
+ALL_UNNAMED = [f"changed {game}: index file: entry of game {game}: no white has its id" for game in range(4)]
+PAST = [f"left out {game}: games file: the record of game {game} ends behind the end of the file" for game in range(4)]
+
+# The table of docs/MENDING.md: twenty ways in which a base is spoilt.
+WAYS = [
+    ("1. an index cut in its third entry", cut(MANY, INDEX, ENTRIES + 2 * 47 + 10),
+     mended(["counted 4, found 2", f"left out 2 to 3: {too_few(ENTRIES + 2 * 47 + 10)}"], 2, 4, MANY_LISTED[:2])),
+    ("2. an index without its last byte", cut(MANY, INDEX, LENGTH - 1),
+     mended(["counted 4, found 3", f"left out 3: {too_few(LENGTH - 1)}"], 3, 4, MANY_LISTED[:3])),
+    ("3. a count that is too low", counted(3), mended(["counted 3, found 4"], 4, 4, MANY_LISTED)),
+    ("4. a count of no games", counted(0), mended(["counted 0, found 4"], 4, 4, MANY_LISTED)),
+    ("5. a count that is too high", counted(9), mended(["counted 9, found 4", f"left out 4 to 8: {too_few(LENGTH)}"], 4, 9, MANY_LISTED)),
+    ("6. the greatest count", counted(16777214),
+     mended(["counted 16777214, found 4", f"left out 4 to 16777213: {too_few(LENGTH)}"], 4, 16777214, MANY_LISTED)),
+    ("7. an index of another magic", with_bytes(MANY, INDEX, 0, b"\0\0"),
+     mended(["index file: not an index; its entries are tried"], 4, 4, MANY_LISTED)),
+    ("8. an index of another version", with_bytes(MANY, INDEX, 8, b"\x01\x2c"),
+     mended(["index file: an index of version 300; its entries are tried"], 4, 4, MANY_LISTED)),
+    ("9. an entry of zeros", with_bytes(MANY, INDEX, ENTRIES + 47, bytes(47)),
+     mended(["left out 1: games file: game 1, byte 0: the record ends too early"], 3, 4, [MANY_LISTED[0], *renumbered(MANY_LISTED[2:], 1)])),
+    ("10. names cut in the third player", cut(MANY, NAMES, 36 + 9 + 10 + 3),
+     mended(["changed 0: index file: entry of game 0: no event has its id", "changed 1: index file: entry of game 1: no black has its id",
+             "changed 2: index file: entry of game 2: no white has its id", "changed 3: index file: entry of game 3: no white has its id"],
+            4, 4, [MANY_LISTED[0], "1 0 0-1 ????.??.?? - Baker - ?", "2 0 1/2-1/2 ????.??.?? - ? - ?", "3 0 * 2000.05.10 - ? - Adams"],
+            changed=4)),
+    ("11. names cut in their header", cut(MANY, NAMES, 35), mended(ALL_UNNAMED, 4, 4, NO_NAMES, changed=4)),
+    ("12. a names file of no bytes", cut(MANY, NAMES, 0), mended(ALL_UNNAMED, 4, 4, NO_NAMES, changed=4)),
+    ("13. names of another magic", with_bytes(MANY, NAMES, 0, b"\0"), mended(ALL_UNNAMED, 4, 4, NO_NAMES, changed=4)),
+    ("14. an id that no name has", with_bytes(MANY, INDEX, ENTRIES + 10, b"\0\x07"),
+     mended(["changed 0: index file: entry of game 0: no white has its id"], 4, 4, ["0 0 1-0 ????.??.?? - ? - Baker", *MANY_LISTED[1:]], changed=1)),
+    ("15. a games file cut in its last record", cut(MANY, GAMES, len(MANY[GAMES]) - 2), mended(PAST[3:], 3, 4, MANY_LISTED[:3])),
+    ("16. a games file of no bytes", cut(MANY, GAMES, 0), mended(PAST, 0, 4, [])),
+    ("17. a move that is not legal", with_bytes(MANY, GAMES, RECORDS[1] + 2, b"\xbc"),
+     mended(["left out 1: games file: game 1, byte 2: a bad move: not legal"], 3, 4, [MANY_LISTED[0], *renumbered(MANY_LISTED[2:], 1)])),
+    ("18. a null move in check", (made.index([made.VIENNA, made.entry(25, len(CHECKED), ids=(0, 1, 0, 0, 0), plies=6)]), made.VIENNA_NAMES,
+                                  made.VIENNA_RECORD + CHECKED),
+     mended(["left out 1: games file: game 1, byte 9: a bad move: not legal"], 1, 2, [LISTED])),
+    ("19. a record that crosses a block", with_bytes(MANY, INDEX, ENTRIES, b"\x00\x01\xff\xfe"),
+     mended(["left out 0: games file: the record of game 0 crosses the end of a block"], 3, 4, renumbered(MANY_LISTED[1:], 0))),
+    ("20. a derived field that differs", with_bytes(MANY, INDEX, ENTRIES + 39, b"\x5b"), WHOLE),
+]
+
 ROWS = [
-    ("a base without a fault", ONE, ([], "mended 1 of 1 games", 0, [LISTED])),
-    ("several games, one deleted", MANY, ([], "mended 4 of 4 games", 0, MANY_LISTED)),
-    ("no games", (made.index([]), made.VIENNA_NAMES, b""), ([], "mended 0 of 0 games", 0, [])),
-    ("an index cut in its one entry", cut(ONE, INDEX, 228), left_out("index file: an index of 228 bytes, which are too few for its games")),
-    ("names cut in their header", cut(ONE, NAMES, 35), unnamed("white", "0 0 1-0 1910.??.?? B15 ? - ?")),
+    ("a base without a fault", ONE, mended([], 1, 1, [LISTED])),
+    ("several games, one deleted", MANY, WHOLE),
+    ("no games", (made.index([]), made.VIENNA_NAMES, b""), mended([], 0, 0, [])),
+    ("an index cut in its one entry", cut(ONE, INDEX, 228), mended(["counted 1, found 0", f"left out 0: {too_few(228)}"], 0, 1, [])),
+    ("an index with a part of an entry behind it", (MANY[INDEX] + bytes(46), *MANY[1:]), WHOLE),
+    ("an index of another magic and version", with_bytes(with_bytes(MANY, INDEX, 0, b"\0"), INDEX, 8, b"\0\0"),
+     mended(["index file: not an index; its entries are tried"], 4, 4, MANY_LISTED)),
     ("a result of no kind", entry_of_one(21, b"\x40"), left_out("index file: entry of game 0: no such result")),
     ("a rating of no kind", entry_of_one(29, b"\x70\x01"), left_out("index file: entry of game 0: no such kind of rating")),
     ("black without a name", entry_of_one(12, b"\x00\x02"), unnamed("black", "0 0 1-0 1910.??.?? B15 Reti, Richard - ?")),
-    ("a record across a block", entry_of_one(0, b"\x00\x01\xff\xf0"), left_out("games file: the record of game 0 crosses the end of a block")),
     ("a record past the end", entry_of_one(4, b"\x00\x1a"), left_out("games file: the record of game 0 ends behind the end of the file")),
     ("a record without its end", entry_of_one(4, b"\x00\x18"), left_out("games file: game 0, byte 24: the record ends too early")),
     ("a tag of no code", with_bytes(ONE, GAMES, 0, b"\xfb"), left_out("games file: game 0, byte 0: a code that stands for no tag name")),
-    ("a move that is not legal", with_bytes(ONE, GAMES, 2, b"\xce"), left_out("games file: game 0, byte 2: a bad move: not legal")),
     ("a mark of no kind", with_bytes(ONE, GAMES, 24, b"\x0e"), left_out("games file: game 0, byte 24: a mark out of place")),
-    ("a derived field that differs", entry_of_one(39, b"\x5b"), ([], "mended 1 of 1 games", 0, [LISTED])),
-    ("an index cut in its third entry", cut(MANY, INDEX, ENTRIES + 2 * 47 + 10),
-     ([f"left out {game}: index file: an index of {ENTRIES + 2 * 47 + 10} bytes, which are too few for its games" for game in (2, 3)],
-      "mended 2 of 4 games", 1, MANY_LISTED[:2])),
-    ("names cut in the third player", cut(MANY, NAMES, 36 + 9 + 10 + 3),
-     (["changed 0: index file: entry of game 0: no event has its id", "changed 1: index file: entry of game 1: no black has its id",
-       "changed 2: index file: entry of game 2: no white has its id", "changed 3: index file: entry of game 3: no white has its id"],
-      "mended 4 of 4 games", 0,
-      [MANY_LISTED[0], "1 0 0-1 ????.??.?? - Baker - ?", "2 0 1/2-1/2 ????.??.?? - ? - ?", "3 0 * 2000.05.10 - ? - Adams"])),
-    ("a games file cut in its last record", cut(MANY, GAMES, len(MANY[GAMES]) - 2),
-     (["left out 3: games file: the record of game 3 ends behind the end of the file"], "mended 3 of 4 games", 1, MANY_LISTED[:3])),
-    ("a games file of no bytes", cut(MANY, GAMES, 0),
-     ([f"left out {game}: games file: the record of game {game} ends behind the end of the file" for game in range(4)], "mended 0 of 4 games", 1, [])),
-    ("a fault in the middle", with_bytes(MANY, GAMES, RECORDS[1] + 2, b"\xbc"),
-     (["left out 1: games file: game 1, byte 2: a bad move: not legal"], "mended 3 of 4 games", 1,
-      [MANY_LISTED[0], MANY_LISTED[2].replace("2 0", "1 0", 1), MANY_LISTED[3].replace("3 0", "2 0", 1)])),
     ("a game that is left out and has no name", with_bytes(entry_of_one(10, b"\x00\x07"), GAMES, 24, b"\x0e"),
      left_out("games file: game 0, byte 24: a mark out of place")),
-    ("a null move in check", (made.index([made.VIENNA, made.entry(25, len(CHECKED), ids=(0, 1, 0, 0, 0), plies=6)]), made.VIENNA_NAMES,
-                              made.VIENNA_RECORD + CHECKED),
-     (["left out 1: games file: game 1, byte 9: a bad move: not legal"], "mended 1 of 2 games", 1, [LISTED])),
 ]
 
 
@@ -180,9 +230,9 @@ def the_games_are_the_same(folder):
 def refusals(folder):
     """What is refused leaves the folder as it was."""
     write(folder, "old", ONE)
-    magic = with_bytes(ONE, INDEX, 0, b"\x00")
-    write(folder, "magic", magic)
-    write(folder, "older", with_bytes(ONE, INDEX, 8, b"\x01\x2c"))
+    write(folder, "magic", counted(2, with_bytes(ONE, INDEX, 0, b"\x00")))
+    write(folder, "older", counted(2, with_bytes(ONE, INDEX, 8, b"\x01\x2c")))
+    write(folder, "many", counted(16777215, ONE))
     write(folder, "short", cut(ONE, INDEX, 181))
     (folder / "there.sn4").write_bytes(b"mine")
     before = contents(folder)
@@ -191,6 +241,7 @@ def refusals(folder):
     for words, wanted in [
         (("magic", "new"), (BAD_INDEX, "", "bad base: index file: not an index\n")),
         (("older", "new"), (BAD_INDEX, "", "bad base: index file: an index of version 300\n")),
+        (("many", "new"), (BAD_INDEX, "", "bad base: index file: an index of 16777215 games, which are too many\n")),
         (("short", "new"), (BAD_INDEX, "", "bad base: index file: an index of 181 bytes, which is no whole header\n")),
         (("old", "there"), (FILES_FAULT, "", f"there.sn4: {in_the_way}\nfiles fault\n")),
         (("old", "old"), (FILES_FAULT, "", f"old.si4: {in_the_way}\nfiles fault\n")),
@@ -211,13 +262,17 @@ def refusals(folder):
 
 
 def a_compaction_that_was_broken_off(folder):
-    """A base whose index is set aside is not put right: that would change it."""
+    """A base whose index is set aside is refused, with the command that puts it right, which then mends."""
     write(folder, "old", ONE)
+    for ending in ENDINGS:
+        shutil.copy(folder / f"old.{ending}", folder / f"old.{ending}.new")
     (folder / "old.si4").rename(folder / "old.si4.old")
     before = contents(folder)
     status, text, errors = run(folder, "old", "new")
     assert (status, text) == (FILES_FAULT, "") and errors.startswith("old.si4.old: a compact was broken off"), errors
-    assert contents(folder) == before
+    assert "scid_mend --back old puts it right" in errors and contents(folder) == before
+    assert run(folder, "--back", "old")[::2] == (0, "")
+    assert run(folder, "old", "new")[0] == 0
 
 
 def a_full_output(folder):
@@ -230,10 +285,13 @@ def a_full_output(folder):
 
 
 def main():
-    for title, base, (lines, last, status, listed) in ROWS:
+    for title, base, (lines, last, status, listed) in WAYS + ROWS:
         with tempfile.TemporaryDirectory() as folder:
-            a_row(Path(folder), base, lines, last, status, listed)
-    print(f"{len(ROWS)} bases with faults and without: ok")
+            try:
+                a_row(Path(folder), base, lines, last, status, listed)
+            except AssertionError as wrong:
+                raise AssertionError(title) from wrong
+    print(f"{len(WAYS)} ways of spoiling a base, and {len(ROWS)} bases beside: ok")
     for show in (the_games_are_the_same, refusals, a_compaction_that_was_broken_off, a_full_output):
         with tempfile.TemporaryDirectory() as folder:
             show(Path(folder))

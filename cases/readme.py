@@ -2,7 +2,7 @@
 """Runs the commands of README.md as they stand, in a fresh clone of what is committed, and compares what they write with what stands behind them.
 
 A command stands behind `$ ` in an indented line, and its text in the indented lines that follow, which end with `..` where it is shown in part.
-Commands that take long are only looked for. The program is PROGRAM, with scid_mend and scid_page from the places beside it where they are built, or what the launchers
+Commands that take long are only looked for. The program is PROGRAM, with the other programs from the places beside it where they are built, or what the launchers
 build without proofs.
 
 Usage: cases/readme.py [PROGRAM [PAGE]]
@@ -16,7 +16,7 @@ import tempfile
 from pathlib import Path
 
 TOP = Path(__file__).resolve().parent.parent
-PROGRAMS = ("scid_shell", "scid_mend", "scid_page")
+PROGRAMS = ("scid_shell", "scid_mend", "scid_page", "scid_moves")
 LONG = ("./build", "cases/run --quick", ".ci/run")
 
 

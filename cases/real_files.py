@@ -1,7 +1,9 @@
 #!/usr/bin/env python3
 """Runs the built program over real files: beside other programs, beside files of the user's own, and ended at each call of the system.
 
-Usage: cases/real_files.py [PROGRAM]
+Usage: cases/real_files.py [PROGRAM [SHOW ..] [--all]]
+
+With --all every schedule of two runs is tried, and not a sample of them.
 """
 import fcntl
 import itertools
@@ -16,65 +18,11 @@ import threading
 import time
 from pathlib import Path
 
-TOP = Path(__file__).resolve().parent.parent
-PROGRAM = str(Path(sys.argv[1] if len(sys.argv) > 1 else TOP / "crates/scid_shell/out/scid_shell").resolve())
-ENDINGS = ("si4", "sn4", "sg4")
-USAGE = 1
-BAD_BASE = 2
-FILES_FAULT = 5
-CHANGED_GAME = 6
-CHANGED = "another program changed it"
-BUSY = "another run saves or compacts this base"
-IN_THE_WAY = "it is in the way"
-
-
-def run(base, script, words=(), before=()):
-    """The status, the output and the errors of one session."""
-    ran = subprocess.run([*before, PROGRAM, *words, base], input=script, capture_output=True, text=True, timeout=60)
-    return ran.returncode, ran.stdout, ran.stderr
-
-
-class Session:
-    """A session that stays open between its commands, each of which answers one line."""
-
-    def __init__(self, base, before=()):
-        pipes = {"stdin": subprocess.PIPE, "stdout": subprocess.PIPE, "stderr": subprocess.PIPE}
-        self.process = subprocess.Popen([*before, PROGRAM, base], text=True, bufsize=1, **pipes)
-        self.opened = self.process.stdout.readline()
-
-    def ask(self, line):
-        too_long = threading.Timer(60, self.process.kill)
-        too_long.start()
-        self.process.stdin.write(line + "\n")
-        self.process.stdin.flush()
-        answer = self.process.stdout.readline()
-        too_long.cancel()
-        return answer
-
-    def end(self):
-        output, errors = self.process.communicate(timeout=60)
-        return self.process.returncode, errors
-
-
-def make_base(folder, name="mine"):
-    """A base of four games, saved."""
-    games = (TOP / "samples/classics.pgn").read_text()
-    base = os.path.join(folder, name)
-    status, _, errors = run(base, f"import <<END\n{games}END\nsave\n", ["--create"])
-    assert status == 0, errors
-    return base
-
-
-def contents(folder):
-    """What each file of the folder holds."""
-    return {path.name: path.read_bytes() for path in Path(folder).iterdir() if path.is_file()}
-
-
-def heads(base, words=("--strict",)):
-    """The lines that `list` has for a base, which has to open without a word on standard error."""
-    status, output, errors = run(base, "list\n", words)
-    assert (status, errors) == (0, ""), (status, errors)
-    return output.splitlines()[1:]
+sys.dont_write_bytecode = True
+import races  # noqa: E402
+from over_files import (  # noqa: E402
+    BAD_BASE, BUSY, CHANGED, CHANGED_GAME, ENDINGS, FILES_FAULT, IN_THE_WAY, PROGRAM, SET_ASIDE, TOP, USAGE, Session, begin, calls_within, clear,
+    contents, fill, heads, held_back, make_base, put_right, run, traced, wait_for)
 
 
 def a_changed_file_is_never_saved_over(folder):
@@ -111,11 +59,6 @@ def a_base_that_another_run_holds_stays(folder):
             assert (status, output) == (FILES_FAULT, "base 4 games 0 mended\ndeleted 1\n"), (status, output)
             assert BUSY in errors and contents(folder) == then, errors
     assert run(base, "delete 1\nsave\n")[0] == 0
-
-
-def clear(folder):
-    for path in Path(folder).iterdir():
-        path.unlink()
 
 
 def two_programs_in_turn(folder):
@@ -334,34 +277,6 @@ def a_word_that_is_no_text(folder):
     assert contents(folder) == {}
 
 
-def traced(base, script, *inject):
-    """Runs a session under strace, and gives its calls."""
-    log = f"{base}.calls"
-    words = ["strace", "-qq", "-f", "-s", "64", "-o", log, *inject]
-    status, output, errors = run(base, script, before=words)
-    calls = Path(log).read_text(errors="replace").splitlines()
-    os.unlink(log)
-    return calls, status, output, errors
-
-
-def calls_within(calls, first, last):
-    """The name and the number of each call from the answer `first` to the answer `last`."""
-    counts, within, found = {}, False, []
-    for line in calls:
-        call = re.match(r"\d+ +(\w+)\(", line)
-        if not call:
-            continue
-        name = call[1]
-        counts[name] = counts.get(name, 0) + 1
-        if within:
-            found.append((name, counts[name]))
-        if f'write(1, "{first}' in line:
-            within = True
-        if f'write(1, "{last}' in line:
-            break
-    return found
-
-
 def an_end_at_each_call(folder, what, answer, edits):
     """A session that is killed at each call of the system while it saves or compacts: the base is the old one or the new one."""
     base = make_base(folder)
@@ -376,9 +291,7 @@ def an_end_at_each_call(folder, what, answer, edits):
     assert len(ends) > 20, len(ends)
     put_back = 0
     for name, number in ends:
-        clear(folder)
-        for file, held in whole.items():
-            Path(folder, file).write_bytes(held)
+        fill(folder, whole)
         _, status, output, _ = traced(base, script, "-e", f"inject={name}:signal=KILL:when={number}")
         assert answer not in output or name == "write", (name, number, output)
         put_back += goes_on(base, old, new, (what, name, number))
@@ -386,57 +299,61 @@ def an_end_at_each_call(folder, what, answer, edits):
 
 
 def goes_on(base, old, new, where):
-    """Opens a base whose last run was killed, looks that it is one of these two, clears up as it is told, and saves it."""
+    """Opens a base whose last run was killed, which changes nothing, puts it right as it is told, looks that it is one of these two, and saves it."""
+    folder = Path(base).parent
+    then = contents(folder)
     status, output, errors = run(base, "list\n", ["--strict"])
-    assert status == 0, (where, status, errors)
-    assert output.splitlines()[1:] in (old, new), (where, output)
-    put_back = int("its files are back in their places" in errors)
-    told = [line.split(": ")[0] for line in errors.splitlines() if "of a run that was broken off" in line]
-    there = [str(path) for path in Path(base).parent.iterdir() if path.suffix in (".new", ".old")]
-    assert sorted(told) == sorted(there), (where, errors)
-    for path in told:
-        os.unlink(path)
+    assert contents(folder) == then, where
+    command = f"scid_mend --back {base}"
+    there = [str(path) for path in folder.iterdir() if path.suffix in (".new", ".old")]
+    refused = status == FILES_FAULT
+    if refused:
+        assert errors == f"{base}.si4.old: {SET_ASIDE}; nothing was changed; {command} puts it right\nfiles fault\n", (where, errors)
+    else:
+        assert status == 0 and output.splitlines()[1:] in (old, new), (where, status, output, errors)
+        told = [line.split(": ")[0] for line in errors.splitlines() if line.endswith(command)]
+        assert sorted(told) == sorted(there), (where, errors)
+    if there:
+        status, said, errors = put_right(base)
+        words = "put back" if refused else "finished" if f"{base}.sg4.old" in there else "taken away"
+        assert (status, errors) == (0, "") and said.startswith(f"{words}: "), (where, said, errors)
+        assert heads(base) == (new if words == "finished" else old), where
+    assert not [path for path in folder.iterdir() if path.suffix in (".new", ".old")], where
+    assert put_right(base) == (0, "whole: nothing is to be put right\n", ""), where
     status, output, errors = run(base, "mark 0 W on\nsave\ncompact\n")
     assert (status, errors) == (0, ""), (where, errors)
-    return put_back
+    return int(refused)
+
+
+FAILING = ("rename", "openat", "read", "lseek", "write", "fsync", "statx", "fchmod", "flock", "unlink")
 
 
 def an_error_at_each_call(folder, what, answer, edits):
-    """A session whose renames, new files, writes and calls that hand files on fail, one after the other: the base is the old one or the new one."""
+    """A session whose calls fail that read files, write them, make new ones, rename them or hand them on, one after the other: the base is the old
+    one or the new one."""
     base = make_base(folder)
     whole = contents(folder)
     old = heads(base)
     script = "".join(f"{edit}\n" for edit in edits) + f"{what}\n"
     calls, _, _, _ = traced(base, script)
     new = heads(base)
-    tried = [it for it in calls_within(calls, "tagged", answer) if it[0] in ("rename", "openat", "write", "fsync", "fchmod", "flock", "unlink")]
+    tried = [it for it in calls_within(calls, "tagged", answer) if it[0] in FAILING]
     for name, number in tried:
-        clear(folder)
-        for file, held in whole.items():
-            Path(folder, file).write_bytes(held)
+        fill(folder, whole)
         _, status, output, errors = traced(base, script, "-e", f"inject={name}:error=EIO:when={number}")
         where = (what, name, number, status, errors)
-        if name == "unlink":
-            # An old file that can't be removed stays, and is told of at the next opening.
-            Path(next(str(path) for path in Path(folder).iterdir() if path.suffix == ".old")).unlink()
+        if name in ("unlink", "statx"):
+            # A file that can't be removed, or not be looked at, stays, and is told of at the next opening.
+            assert put_right(base)[0] == 0, where
         if status == 0:
             assert answer in output and errors == "" and heads(base) == new, where
         else:
             assert heads(base) in ((old,) if status == FILES_FAULT else (old, new)), where
             assert sorted(contents(folder)) == sorted(whole), where
-            assert status != FILES_FAULT or "Input/output error" in errors, where
+            # What can't be looked at may count as changed.
+            reasons = ["Input/output error", *(["another program changed it"] if name == "statx" else [])]
+            assert status != FILES_FAULT or any(reason in errors for reason in reasons), where
     return f"{len(tried)} calls of {what}"
-
-
-def held_back(base, call, when=""):
-    """A session that strace holds back for half a second before each call of the system of this name, or before those that `when` tells."""
-    return Session(base, ["strace", "-qq", "-f", "-o", "/dev/null", "-e", f"inject={call}:delay_enter=500000{when}"])
-
-
-def begin(session, line):
-    """Hands a command on, whose answer is not waited for."""
-    session.process.stdin.write(line + "\n")
-    session.process.stdin.flush()
 
 
 def ends_with(session, fault, folder, then):
@@ -445,13 +362,6 @@ def ends_with(session, fault, folder, then):
     status, errors = session.end()
     assert status == FILES_FAULT and fault in errors, (status, errors)
     assert contents(folder) == then, contents(folder).keys()
-
-
-def wait_for(path):
-    """Waits until the file is there and has bytes."""
-    end = time.monotonic() + 30
-    while not (path.exists() and path.stat().st_size) and time.monotonic() < end:
-        time.sleep(0.01)
 
 
 def a_new_file_that_grows_takes_no_place(folder):
@@ -555,14 +465,17 @@ def lines_of_an_import_stand_while_it_waits(folder):
 
 
 def a_broken_off_run_that_was_not_alone(folder):
-    """An index that was set aside beside files that no run leaves so: it is said how to go on, and nothing is touched, with `--create` too."""
+    """An index that was set aside beside files that no run leaves so: it is named, and nothing is touched, with `--create` and `--back` too."""
     base = make_base(folder)
     os.rename(f"{base}.si4", f"{base}.si4.old")
     then = contents(folder)
+    told = f"{base}.si4.old: no run leaves such files beside a base; nothing was changed"
     for words in ([], ["--create"]):
         status, output, errors = run(base, "info\n", words)
-        assert status == FILES_FAULT and output == "" and f"{base}.si4.old: a compact was broken off; rename" in errors, errors
+        assert status == FILES_FAULT and output == "" and errors.startswith(told), errors
         assert contents(folder) == then
+    status, output, errors = put_right(base)
+    assert status == FILES_FAULT and output == "" and errors.startswith(told) and contents(folder) == then, errors
     os.rename(f"{base}.si4.old", f"{base}.si4")
     heads(base)
 
@@ -575,7 +488,7 @@ def the_launcher_of_a_fresh_clone(folder):
     script = (clone / "samples/find.txt").read_text()
     status, output, errors = launched(clone, "samples/openings", script)
     assert status == 0 and output == re.sub("^    ", "", shown[1], flags=re.M), (output, errors)
-    assert "building the program without its proofs, once" in errors and "not proved" in errors, errors
+    assert "without its proofs" in errors and "not proved" in errors, errors
     base = make_base(folder)
     status, output, errors = launched(clone, base, "tag 0 White C\nsave\n")
     assert (status, errors) == (0, "scid_shell: the program is not proved (./build proves it)\n") and "saved 4 games" in output, errors
@@ -609,6 +522,7 @@ def main():
         (a_word_that_is_no_text,),
         (lines_of_an_import_stand_while_it_waits,),
         (a_broken_off_run_that_was_not_alone,),
+        *races.SHOWS,
     ]
     if shutil.which("strace"):
         shows += [
@@ -621,6 +535,7 @@ def main():
             (an_error_at_each_call, "compact", "compacted", ["delete 1", "tag 0 White C"]),
             (an_end_at_each_call, "save", "saved", ["tag 0 White C"]),
             (an_end_at_each_call, "compact", "compacted", ["delete 1", "tag 0 White C"]),
+            *races.TRACED,
         ]
     else:
         print("cases/real_files.py: strace is not there: the order of what is handed on, the number of calls, and an end at each call, are not tried")
@@ -628,7 +543,7 @@ def main():
         shows.append((the_launcher_of_a_fresh_clone,))
     else:
         print("cases/real_files.py: rt is not there: the launcher of a fresh clone is not tried")
-    only = sys.argv[2:]
+    only = [word for word in sys.argv[2:] if not word.startswith("--")]
     for show, *words in shows:
         if only and show.__name__ not in only:
             continue

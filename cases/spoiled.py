@@ -5,8 +5,8 @@ named and that nothing is lost.
 usage: cases/spoiled.py [PROGRAM [PART ..]]
 
 Every byte of two small bases is changed to three values, and every file of theirs is cut at each length. Disks are full, files may not grow, a
-folder can't be written, a file vanishes between two commands; scripts have 1 GiB, a base a million games, and memory has a limit, or is refused
-once, at each place in turn. Parts that look at a clock run where they are named: whether what is refused is refused in time that grows no faster
+folder can't be written, a file vanishes between two commands; a script breaks off and an output takes no more behind each byte; scripts have 1 GiB,
+a base a million games, and memory has a limit, or is refused once, at each place in turn. Parts that look at a clock run where they are named: whether what is refused is refused in time that grows no faster
 than its bytes (bench/refusals/run).
 """
 import itertools
@@ -15,6 +15,7 @@ import re
 import resource
 import shutil
 import signal
+import socket
 import subprocess
 import sys
 import tempfile
@@ -24,11 +25,12 @@ from pathlib import Path
 
 sys.dont_write_bytecode = True
 import make_bases as made  # noqa: E402
+from over_files import other_program  # noqa: E402
 
 TOP = Path(__file__).resolve().parent.parent
 PROGRAM = str(Path(sys.argv[1] if len(sys.argv) > 1 else TOP / "crates/scid_shell/out/scid_shell").resolve())
 ENDINGS = ("si4", "sn4", "sg4")
-DONE, BAD_BASE, FILES_FAULT, INPUT_TOO_LONG, MEMORY = 0, 2, 5, 7, 8
+DONE, BAD_BASE, READ_FAULT, WRITE_FAULT, FILES_FAULT, INPUT_TOO_LONG, MEMORY = 0, 2, 3, 4, 5, 7, 8
 BLOCK = 131_072
 LONGEST_RECORD = 131_071
 MIB = 1 << 20
@@ -302,11 +304,89 @@ def a_file_that_vanishes(folder):
             if script == READING:
                 assert ran == (DONE, text, ""), (path, ran)
             else:
-                assert ran[0] == FILES_FAULT and re.search(rf"^{path}: .*\nfiles fault\n$", ran[2], flags=re.M), (path, script, ran)
+                assert ran[0] == FILES_FAULT and re.search(rf"^{path}: .*\n(there is no base .*\n)?files fault\n$", ran[2], flags=re.M), (path, script, ran)
             status, written, errors = run(base, READING)
             assert (status, written) == (FILES_FAULT, "") and f"{path}: " in errors, (path, status, errors)
             aside.rename(path)
             assert contents(folder) == then and heads(base) == old, (path, script)
+
+
+# Streams that break off
+
+# The commands of a script, each with its answer.
+SAID = [
+    ("tag 0 White C\n", "tagged 0\n"),
+    ("save\n", "saved 5 games\n"),
+    ("import <<END\n1. e4 *\n\n1. d4 *\nEND\n", "added 5\nadded 6\nimported 2 refused 0\n"),
+    ("save\n", "saved 7 games\n"),
+    ("delete 0\n", "deleted 0\n"),
+    ("compact\n", "compacted 7 to 5\n"),
+    ("tag 0 White D\n", "tagged 0\n"),
+]
+
+
+def broken_off(script):
+    """A stream of these bytes that then fails: the other end was closed before it had read what was sent to it."""
+    ours, its = socket.socketpair()
+    ours.sendall(script.encode())
+    its.send(b"not read")
+    ours.close()
+    return open(its.detach(), "rb", buffering=0)
+
+
+def a_script_that_breaks_off(folder):
+    """Behind each byte of a script its source fails: what is written is the answers of the commands that were read whole, and of a body that is being
+    read the lines of its games; the base is that of the last save or compaction."""
+    base, script = str(Path(folder, "base")), "".join(line for line, _ in SAID)
+    whole, saved = saved_bases(base, SHOWN, [], script)
+    for length in range(len(script) + 1):
+        write(base, SHOWN)
+        with broken_off(script[:length]) as source:
+            status, text, errors = run(base, source)
+        assert (status, errors) == (READ_FAULT, "read fault\n"), (length, status, errors)
+        told, read = "base 5 games 0 mended\n", 0
+        for line, answer in SAID:
+            if read + len(line) > length:
+                break
+            told, read = told + answer, read + len(line)
+        rest = text.removeprefix(told)
+        assert text.startswith(told) and whole.startswith(text), (length, text)
+        assert rest == "" or line.startswith("import") and re.fullmatch(r"(added \d\n)+", rest), (length, rest)
+        saves = len(re.findall("^(?:saved|compacted) ", text, flags=re.M))
+        assert heads(base) == saved[saves], (length, text)
+    return f"{len(script) + 1} bytes"
+
+
+def an_output_that_takes_no_more(folder):
+    """Behind each byte of what a script writes, at a desk too, its output fails: what is written is what comes before."""
+    base, output = str(Path(folder, "base")), Path(folder, "output")
+    write(base, SHOWN)
+    script = f"info\nhits\nindex 2\nwatch 0 {START}\nclear\nview 0\nfaulty\nshow 0\n"
+    desk = "".join(f"@{number % 2} {line}" for number, line in enumerate(script.splitlines(keepends=True)))
+    signal.signal(signal.SIGXFSZ, signal.SIG_IGN)
+    bytes_tried = 0
+    for words, said in (([], script), (["--desk"], desk)):
+        status, whole, errors = run(base, said, words)
+        assert (status, errors) == (DONE, ""), (status, errors)
+        for most in range(len(whole)):
+            with output.open("wb") as file:
+                limit = {"preexec_fn": lambda: resource.setrlimit(resource.RLIMIT_FSIZE, (most, most)), "restore_signals": False}
+                ran = subprocess.run([PROGRAM, *words, base], input=said.encode(), stdout=file, stderr=subprocess.PIPE, timeout=60, **limit)
+            assert (ran.returncode, ran.stderr) == (WRITE_FAULT, b"write fault\n"), (words, most, ran)
+            assert output.read_bytes() == whole[:most].encode("latin-1"), (words, most)
+        bytes_tried += len(whole)
+    return f"{bytes_tried} bytes"
+
+
+def what_stands_behind_quit_is_left(folder):
+    """Of what stands far behind the line `quit` at most 32,768 bytes are read."""
+    base, script = str(Path(folder, "base")), Path(folder, "script")
+    write(base, VIENNA)
+    for behind in (b"\n", b"x"):
+        script.write_bytes(b"quit\n" + 65_536 * behind)
+        with script.open("rb", buffering=0) as file:
+            assert run(base, file) == (DONE, "base 1 games 0 mended\n", "")
+            assert os.lseek(file.fileno(), 0, os.SEEK_CUR) <= len("quit\n") + 32_768
 
 
 # Scripts of 1 GiB, and a million games
@@ -433,15 +513,23 @@ GROWING = [
 ]
 
 
-def each_growth_refused(folder):
-    """Each growth of the program's memory is refused once, until none is: the run is out of memory, with a front part of the whole text, or is
-    done where the list of its words asked again; and the base is that of the last save or compaction, or of the one that was at work."""
+def refusing_library(folder):
+    """The library that refuses a growth, or none where there is no C compiler."""
     compiler = shutil.which("cc")
     if not compiler:
-        return "left out: there is no C compiler"
+        return None
     refusing, source = str(Path(folder, "refusing.so")), Path(folder, "refusing.c")
     source.write_text(REFUSING)
     subprocess.run([compiler, "-shared", "-fPIC", "-O1", "-o", refusing, str(source)], check=True)
+    return refusing
+
+
+def each_growth_refused(folder):
+    """Each growth of the program's memory is refused once, until none is: the run is out of memory, with a front part of the whole text, or is
+    done where the list of its words asked again; and the base is that of the last save or compaction, or of the one that was at work."""
+    refusing = refusing_library(folder)
+    if not refusing:
+        return "left out: there is no C compiler"
     statuses = Counter()
     with ThreadPoolExecutor(AT_ONCE) as pool:
         for number, (files, words, script) in enumerate(GROWING):
@@ -456,6 +544,41 @@ def each_growth_refused(folder):
                     break
     if not statuses:
         return "left out: the program does not take its memory from the C library"
+    return f"{statuses[MEMORY]} growths that end a run, {statuses[DONE]} that were asked for again"
+
+
+def each_growth_refused_to_other_programs(folder):
+    """Each growth of the memory of scid_mend and of scid_page is refused once, until none is: the run is out of memory, or is done; what it reads
+    stays as it was, and what it makes is whole, or is gone or says that it is not whole."""
+    refusing = refusing_library(folder)
+    if not refusing:
+        return "left out: there is no C compiler"
+    statuses = Counter()
+    for name, others in (("scid_mend", lambda room: [room / f"new.{ending}" for ending in ENDINGS]), ("scid_page", lambda room: [room / "new"])):
+        words = [other_program(name), *(["--least", "1", "--depth", "2"] if name == "scid_page" else [])]
+        room, mark = Path(folder, name), Path(folder, "refused")
+        for growth in itertools.count(1):
+            room.mkdir()
+            write(room / "old", SHOWN)
+            then = contents(room)
+            ran = subprocess.run([*words, str(room / "old"), str(room / "new")], capture_output=True, text=True, timeout=60,
+                                 env={"LD_PRELOAD": refusing, "GROWTH": str(growth), "REFUSED": str(mark)})
+            where = (name, growth, ran)
+            assert ran.returncode in (DONE, MEMORY), where
+            assert ran.stderr == "" if ran.returncode == DONE else ran.stderr.endswith("out of memory\n"), where
+            assert {file: content for file, content in contents(room).items() if file in then} == then, where
+            made = [path for path in others(room) if path.exists()]
+            if ran.returncode == DONE:
+                assert made == others(room), where
+            elif made:
+                # Memory may run out at the last line, where all pages are written: the first page is written last.
+                there = [path.name for path in (room / "new").iterdir()] if name == "scid_page" else ["a new base"]
+                assert there == [] or "INCOMPLETE" in there or "index.html" in there, (where, made)
+            statuses[ran.returncode] += mark.exists()
+            shutil.rmtree(room)
+            if not mark.exists():
+                break
+            mark.unlink()
     return f"{statuses[MEMORY]} growths that end a run, {statuses[DONE]} that were asked for again"
 
 
@@ -643,9 +766,13 @@ PARTS = [
     files_that_may_not_grow,
     a_folder_that_cannot_be_written,
     a_file_that_vanishes,
+    a_script_that_breaks_off,
+    an_output_that_takes_no_more,
+    what_stands_behind_quit_is_left,
     scripts_of_a_gibibyte,
     a_million_games,
     each_growth_refused,
+    each_growth_refused_to_other_programs,
 ]
 
 # These look at a clock, and run where they are named alone, as `bench/refusals/run` does.

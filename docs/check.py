@@ -5,12 +5,22 @@ Each word that a row of docs/CLAIMS.md names as the call or clause of something 
 a field of the repository, and a clause one of the calls and types that the row, the row above or the section's head names; of the table of
 answers each clause has to be one of the call's own, and each call that the crates hand out and that can answer an error other than want of
 memory has to be in it. docs/TRUSTED.md has to list the files of specs/ that the theorem of the program rests on, and apart from them those
-that other public clauses rest on, as docs/trusted.py finds them."""
+that other public clauses rest on, as docs/trusted.py finds them. A word of any page has to be defined in the file of specs/ that stands in
+brackets behind it. The wrong bodies that docs/MAINTAINING.md names have to be there, and all wrong bodies have to be within the numbers that it
+gives. Of each crate that crates.txt gives a crate, some file of it has to name something. docs/DESIGN.md has to have a row for each crate, with
+numbers of lines that are about right, on a floor above all that it names, as docs/house.py finds. No page may have more long
+sentences, long lines and turns of phrase than docs/prose.py leaves it."""
+import collections
 import re
 import sys
 
+import house
+import prose
 import trusted
 from trusted import TOP, sources
+
+# What a line of specs/ defines.
+DEFINITION = r"^\s*(?:(?:unfoldable|abbrev|pub|record|data|mutual) )*([^\s:(){}]+) ?[:({]"
 
 
 def names_there():
@@ -22,7 +32,7 @@ def names_there():
         found.update(re.findall(r"^\s+(?:pub )?(\w+)\b[ ,:({]", text, flags=re.M))
     for path in sources("specs", ".antt"):
         text = path.read_text()
-        found.update(re.findall(r"^\s*(?:(?:unfoldable|abbrev|pub|record|data|mutual) )*([^\s:(){}]+) ?[:({]", text, flags=re.M))
+        found.update(re.findall(DEFINITION, text, flags=re.M))
         found.update(re.findall(r"^\s*\| (\w+)", text, flags=re.M))
     found.update(it.parent.name for it in (TOP / "crates").glob("*/src"))
     found.update(it.stem for it in sources("src", ".rt"))
@@ -95,6 +105,19 @@ def unknown_words():
                     yield f"docs/CLAIMS.md:{number}: nothing is named {part}"
 
 
+def misplaced_words():
+    """Words of the pages that are not defined in the file of specs/ which stands in brackets behind them."""
+    defined = {}
+    for path in sources("specs", ".antt"):
+        defined.setdefault(path.name, set()).update(re.findall(DEFINITION, path.read_text(), flags=re.M))
+    for page in sorted((TOP / "docs").glob("*.md")):
+        for number, line in enumerate(page.read_text().splitlines(), 1):
+            for before, file in re.findall(r"([^|()]*)\(`(\w+\.antt)`\)", line):
+                for word in re.findall(r"`(\w+)`", before):
+                    if word not in defined.get(file, ()):
+                        yield f"docs/{page.name}:{number}: {file} does not define {word}"
+
+
 def clauses_of(crate, call):
     """The names of the clauses that the functions of this name have in a crate, for those of the type that is named before it."""
     *kind, name = call.split("::")
@@ -163,8 +186,39 @@ def missing_answers():
             yield f"docs/CLAIMS.md: the table of answers has no row of {crate}::{call}"
 
 
+MOST_EDITS, MOST_CRATES_WITH_EDITS, MOST_EDITS_OF_A_CRATE = 90, 28, 5
+
+
+def wrong_bodies():
+    """Wrong bodies that docs/MAINTAINING.md names and that are not there, and numbers of wrong bodies that are too large."""
+    there = {f"{it.parent.parent.name}/{it.stem}" for it in (TOP / "crates").glob("*/must-fail/*.edit")}
+    table = (TOP / "docs/MAINTAINING.md").read_text().partition("## The wrong bodies that stay")[2]
+    named = set(re.findall(r"`(\w+/\w+)`", table))
+    for name in sorted(named - there):
+        yield f"docs/MAINTAINING.md: there is no wrong body {name}"
+    crates = collections.Counter(it.split("/")[0] for it in there)
+    if len(there) > MOST_EDITS or len(crates) > MOST_CRATES_WITH_EDITS:
+        yield f"crates/*/must-fail: {len(there)} wrong bodies in {len(crates)} crates, where at most {MOST_EDITS} in {MOST_CRATES_WITH_EDITS} are meant"
+    of_table = collections.Counter(it.split("/")[0] for it in named)
+    for crate, count in sorted(crates.items()):
+        if count > max(MOST_EDITS_OF_A_CRATE, of_table[crate]):
+            yield f"crates/{crate}/must-fail: {count} wrong bodies"
+
+
+def unnamed_crates():
+    """Crates that crates.txt gives a crate and that no file of it names."""
+    for line in (TOP / "crates.txt").read_text().splitlines():
+        crate, _, below = line.partition("#")[0].partition(":")
+        files = [path for part in ("src", "specs", "proofs") for path in (TOP / "crates" / crate / part).rglob("*.*t")]
+        text = "\n".join(path.read_text() for path in files)
+        for name in below.split():
+            if not re.search(rf"\b{name}(?:::|\.)", text):
+                yield f"crates.txt: no file of {crate} names {name}"
+
+
 def main():
-    faults = [*unknown_words(), *misplaced_clauses(), *unknown_answers(), *missing_answers(), *trusted.faults()]
+    faults = [*unknown_words(), *misplaced_words(), *misplaced_clauses(), *unknown_answers(), *missing_answers(), *trusted.faults()]
+    faults += [*wrong_bodies(), *unnamed_crates(), *house.faults(), *prose.faults()]
     for fault in faults:
         print(fault)
     return 1 if faults else 0

@@ -1,6 +1,8 @@
 #!/usr/bin/env python3
-"""sample.py OUT FOLDER..: until it is ended, notes each second what processor time each check below one of the folders has taken, and writes to OUT,
-for each crate and part (proofs, tests, edits, builds), the seconds of all that it saw. It reads /proc alone, so it can run beside any check."""
+"""sample.py OUT FOLDER..: until it is ended, notes each second what each check below one of the folders has taken, and writes to OUT, for each crate
+and part (proofs, tests, second, edits, builds), the processor seconds of all that it saw, and the seconds by the clock of the longest. It reads /proc
+alone, so it can run beside any check. A check is several processes with the same words, of which each is seen by itself. A second proof is what the
+wrong bodies of a crate begin with."""
 import collections
 import os
 import signal
@@ -10,8 +12,23 @@ import time
 TICKS = os.sysconf("SC_CLK_TCK")
 
 
+def part_of(words, folder):
+    """What a process of the prover does, by its words and its folder."""
+    if "--crate-checked" in words:
+        return "builds"
+    if "--test" in words:
+        return "tests"
+    if "/rt-edit-" not in folder:
+        return "proofs"
+    kept = words[words.index("--incremental") + 1] if "--incremental" in words else ""
+    return "second" if kept.endswith("/seed") else "edits"
+
+
 def running(folders):
-    """Yields each process of the prover that works below one of the folders: its number and start, its crate, its part and its processor seconds."""
+    """Yields each process of the prover that works below one of the folders: its number and start, its crate, its part, its processor seconds and
+    those since its start."""
+    with open("/proc/uptime") as it:
+        uptime = float(it.read().split()[0])
     for pid in filter(str.isdigit, os.listdir("/proc")):
         try:
             with open(f"/proc/{pid}/cmdline", "rb") as it:
@@ -25,16 +42,8 @@ def running(folders):
                 times = it.read().rsplit(")", 1)[1].split()
         except (OSError, IndexError):
             continue
-        crate = words[words.index("--crate-name") + 1]
-        if "--crate-checked" in words:
-            part = "builds"
-        elif "--test" in words:
-            part = "tests"
-        elif "/rt-edit-" in folder:
-            part = "edits"
-        else:
-            part = "proofs"
-        yield (pid, times[19]), crate, part, sum(map(int, times[11:15])) / TICKS
+        crate, begun = words[words.index("--crate-name") + 1], int(times[19])
+        yield (pid, begun), crate, part_of(words, folder), sum(map(int, times[11:13])) / TICKS, uptime - begun / TICKS
 
 
 def main(out, folders):
@@ -43,15 +52,16 @@ def main(out, folders):
     signal.signal(signal.SIGTERM, lambda *_: ended.append(True))
     signal.signal(signal.SIGINT, lambda *_: ended.append(True))
     while not ended:
-        for key, crate, part, seconds in running(folders):
-            seen[key] = (crate, part, seconds)
+        for key, *found in running(folders):
+            seen[key] = found
         time.sleep(1)
-        table = collections.Counter()
-        for crate, part, seconds in seen.values():
-            table[crate, part] += seconds
+        taken, longest = collections.Counter(), collections.Counter()
+        for crate, part, seconds, since in seen.values():
+            taken[crate, part] += seconds
+            longest[crate, part] = max(longest[crate, part], since)
         with open(f"{out}.new", "w") as it:
-            for (crate, part), seconds in table.most_common():
-                print(f"{crate}\t{part}\t{seconds:.0f}", file=it)
+            for (crate, part), seconds in taken.most_common():
+                print(f"{crate}\t{part}\t{seconds:.0f}\t{longest[crate, part]:.0f}", file=it)
         os.replace(f"{out}.new", out)
 
 

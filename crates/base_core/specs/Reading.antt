@@ -38,6 +38,10 @@ kept_entry e s date = record e {
   home = s.home.values;
 }
 
+-- The bytes are a record of a game with this signature.
+abbrev pub HasSig : List ℕ → Sig → Type 0
+HasSig bytes s = (tags : List Tag) × ((tree : GameTree) × (IsRecord bytes tags tree × IsSig tree s))
+
 -- The bytes are a record of a game with this signature, and of tags with which an entry's head has this event date when it is settled.
 pub record IsSigned (bytes : List ℕ) (e : Entry) (s : Sig) (date : Date) : Type 0 where
   pub tags : List Tag

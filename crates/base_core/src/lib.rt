@@ -9,6 +9,7 @@ mod fault;
 mod game;
 mod games;
 mod laws;
+mod long_records;
 mod marking;
 mod naming;
 mod opening;

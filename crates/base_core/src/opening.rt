@@ -143,7 +143,7 @@ fn open_loaded<F: Files>(
         end,
         strict,
     };
-    let (entries, mended) = match read_games(files, &opening, index, header.games, buf) {
+    let (entries, mended) = match read_games(alloc, files, &opening, index, header.games, buf) {
         Ok(read) => read,
         Err(error) => return Err(error),
     };

@@ -14,18 +14,20 @@ ghost use Rattle.sig_index.specs.Signature.{IsSigBounded};
 ghost use Rattle.base_core.specs.Entries.{head_of};
 ghost use Rattle.base_core.specs.FirstFault.{EntryFails, Fails};
 ghost use Rattle.base_core.specs.Opening.{IfBad, records_len};
-ghost use Rattle.base_core.specs.Reading.{AreRead, IsMended, IsNotTaken, IsReadSo, IsSigned, IsTaken};
+ghost use Rattle.base_core.specs.Reading.{AreRead, HasSig, IsMended, IsNotTaken, IsReadSo, IsSigned, IsTaken};
 ghost use Rattle.base_core.specs.Represents.{IsKept};
 
 use crate::checking::{Opening, checked_entry, differing, kept_entry};
 use crate::entries::Entries;
 use crate::fault::{BaseFault, OpenError};
+use crate::long_records::LongRecords;
 use crate::part_read::PartRead;
 use base_files::Files;
 use game_codec::{RecordFault, event_date_in};
 use game_tree::Date;
 use index_entry::{ENTRY_LEN, Entry};
 use sig_index::{Sig, signed};
+use std::alloc::Global;
 
 // What a record says beside its entry: the signature of its game, and the event date of its settled head.
 #[derive(Clone, Copy, Debug, Drop)]
@@ -53,6 +55,7 @@ impl GameRead {
 /// The entries of so many games with their derived fields mended, in the bytes of their index, and how many of them were. Each record
 /// is read once, into `buf`.
 pub(crate) fn read_games<F: Files>(
+    alloc: Global,
     files: &mut F,
     o: &Opening<'_>,
     index: Vec<u8>,
@@ -76,9 +79,10 @@ pub(crate) fn read_games<F: Files>(
     ensures cause { IfErr result (λ error. error ≡ OpenError.Failed → Rose (F.faults files.old) (F.faults files.new)) }
 {
     let mut part = PartRead::of(index);
+    let mut long = LongRecords::new(alloc);
     let mut mended = 0;
     for game in 0..count {
-        let read = read_game(files, o, game, &part.next(), buf)?;
+        let read = read_game(files, o, &mut long, game, &part.next(), buf)?;
         part.put(&read.entry);
         mended += read.count();
     }
@@ -89,6 +93,7 @@ pub(crate) fn read_games<F: Files>(
 fn read_game<F: Files>(
     files: &mut F,
     o: &Opening<'_>,
+    long: &mut LongRecords,
     game: u32,
     packed: &[u8; ENTRY_LEN],
     buf: &mut [u8],
@@ -117,11 +122,17 @@ fn read_game<F: Files>(
     {
         return Err(OpenError::Failed);
     }
-    taken_entry(o.strict, game, &entry, &buf[..entry.len as usize])
+    taken_entry(o.strict, long, game, &entry, &buf[..entry.len as usize])
 }
 
 // The entry with its derived fields mended by the bytes of its record.
-fn taken_entry(strict: bool, game: u32, entry: &Entry, bytes: &[u8]) -> Result<GameRead, OpenError>
+fn taken_entry(
+    strict: bool,
+    long: &mut LongRecords,
+    game: u32,
+    entry: &Entry,
+    bytes: &[u8],
+) -> Result<GameRead, OpenError>
     requires fields { IsEntry entry.now }
     requires few { length bytes.now < 2 ^ 32 }
     ensures taken { IfOk result (λ read. IsTaken strict bytes.now entry.now read.entry read.mended) }
@@ -131,10 +142,11 @@ fn taken_entry(strict: bool, game: u32, entry: &Entry, bytes: &[u8]) -> Result<G
     ensures strictly { IfOk result (λ read. IsTrue strict → read.mended ≡ false) }
     ensures no_files { IfErr result (λ error. error ≡ OpenError.Failed → ⊥) }
 {
-    let signed = match signed_by(entry, bytes) {
-        Ok(signed) => signed,
+    let sig = match long.signature(bytes) {
+        Ok(sig) => sig,
         Err(fault) => return Err(OpenError::Bad(BaseFault::Packed { game, fault })),
     };
+    let signed = signed_by(entry, bytes, sig);
     let found = differing(entry, &signed.sig);
     match found {
         Some(field) if strict => Err(OpenError::Bad(BaseFault::Derived { game, field })),
@@ -158,24 +170,24 @@ pub fn mended_entry(entry: &Entry, bytes: &[u8]) -> Result<Entry, RecordFault>
     ensures fields { IfOk result IsEntry }
     ensures homes { IfOk result (λ kept. kept.home_count ≤ 16) }
 {
-    let signed = signed_by(entry, bytes)?;
+    let sig = signed(bytes)?;
+    let signed = signed_by(entry, bytes, sig);
     Ok(kept_entry(entry, &signed.sig, signed.event_date))
 }
 
-// What the bytes of the entry's record say, or their first fault. This is the one place where a record is looked at.
-fn signed_by(entry: &Entry, bytes: &[u8]) -> Result<Signed, RecordFault>
+// What the bytes of the entry's record say, whose game has this signature.
+fn signed_by(entry: &Entry, bytes: &[u8], sig: Sig) -> Signed
     requires fields { IsEntry entry.now }
-    requires few { length bytes.now < 2 ^ 32 }
-    ensures signed { IfOk result (λ signed. IsSigned bytes.now entry.now signed.sig signed.event_date) }
-    ensures bounded { IfOk result (λ signed. IsSigBounded signed.sig) }
-    ensures fault { IfErr result (IsRecordFault bytes.now) }
-    ensures event_date { IfOk result (λ signed. IsDate signed.event_date × IsTrue (keeps_rule signed.event_date entry.now.date)) }
+    requires has { HasSig bytes.now sig }
+    requires bounded { IsSigBounded sig }
+    ensures signed { IsSigned bytes.now entry.now result.sig result.event_date }
+    ensures bounded { IsSigBounded result.sig }
+    ensures event_date { IsDate result.event_date × IsTrue (keeps_rule result.event_date entry.now.date) }
 {
-    let sig = signed(bytes)?;
-    Ok(Signed {
+    Signed {
         sig,
         event_date: settled_event_date(entry, bytes),
-    })
+    }
 }
 
 // The event date that the head of an entry has when it is settled with the tags of its record. The names do not matter.

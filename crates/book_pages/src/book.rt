@@ -10,8 +10,9 @@ ghost use Rattle.book_pages.specs.Keeping.{AreBoards, AreTallies, AreCountedIf, 
 
 use crate::counting::{Counted, count_record, men_in};
 use crate::fault::BookError;
+use crate::listing::{Listed, Worth};
 use crate::tally::Tally;
-use crate::trail::{Trail, Way};
+use crate::trail::{Tracker, Trail, Way};
 use base_files::Files;
 use cell_core::{PackedBoard, unpack};
 use chess_laws::Position;
@@ -120,6 +121,11 @@ impl Book {
         self.boards.as_slice()[number]
     }
 
+    /// Whether a board has a page.
+    pub fn has(&self, board: &PackedBoard) -> bool {
+        self.boards.get_index_of(board).is_some()
+    }
+
     /// The rows of a page, in the order of their keys. Each key is a move that is legal from some position of its board and side, or none.
     pub fn rows(&self, number: usize) -> &[Row]
         requires page { number < length self.now.boards }
@@ -129,10 +135,10 @@ impl Book {
         self.tallies[number].rows().as_slice()
     }
 
-    /// The first games of a page, at most ten.
-    pub fn firsts(&self, number: usize) -> &[u32] {
-        match self.tallies.get(number) {
-            Some(tally) => tally.firsts(),
+    /// The games of a page that are listed: the best rated ten, and of those of equal ratings the newest, the best first.
+    pub fn listed(&self, number: usize) -> &[Listed] {
+        match self.trails.get(number) {
+            Some(trail) => trail.listing.games(),
             None => &[],
         }
     }
@@ -258,13 +264,14 @@ fn count_game<G: Games, F: Files>(
         Err(error) => return Err(BookError::Fetch(error)),
     };
     let game = counted(games, i);
+    let mut tracker = Tracker::new(depth, i, worth_of(games, i));
     let read = match count_record(
         alloc,
         boards,
         fewest,
         tallies,
         trails,
-        depth,
+        &mut tracker,
         &game,
         buf.split_at(len as usize).0,
     ) {
@@ -293,6 +300,17 @@ fn counted<G: Games>(games: &G, i: u32) -> Counted
         black: games.black_rating(i).value,
         year: games.date(i).year,
     }
+}
+
+// What game `i` is worth.
+fn worth_of<G: Games>(games: &G, i: u32) -> Worth
+    requires game { i < length (G.sigs games.now) }
+{
+    Worth::of(
+        games.white_rating(i).value,
+        games.black_rating(i).value,
+        games.date(i),
+    )
 }
 
 // No board has fewer men than so many, kings not counted.

@@ -49,7 +49,7 @@ pub(crate) fn count_record(
     fewest: u16,
     tallies: &mut [Tally],
     trails: &mut [Trail],
-    depth: u8,
+    tracker: &mut Tracker,
     game: &Counted,
     bytes: &[u8],
 ) -> Result<bool, AllocError>
@@ -65,19 +65,11 @@ pub(crate) fn count_record(
         Ok(walk) => walk,
         Err(_) => return Ok(false),
     };
-    let mut tracker = Tracker::new(depth);
     loop {
         // A move takes a byte at least, so the walk ends.
         walk.ply();
         let course = count_here(
-            alloc,
-            boards,
-            fewest,
-            tallies,
-            trails,
-            &mut tracker,
-            game,
-            &mut walk,
+            alloc, boards, fewest, tallies, trails, tracker, game, &mut walk,
         )?;
         match course {
             Course::On => {}

@@ -1,17 +1,15 @@
 //! What is counted on a board.
 ghost use Rattle.std.specs.Prelude.{◌≡◌, ◌≤◌};
 
-use arrayvec::ArrayVec;
 use std::alloc::{AllocError, Global};
 use std::marker::Model;
 use tree_rows::{GameHit, Rows};
 
-/// The rows of a board, the last game that was counted there, and the first games that were.
+/// The rows of a board, and the last game that was counted there.
 #[derive(Drop)]
 pub(crate) struct Tally {
     rows: Rows,
     last: Option<u32>,
-    firsts: ArrayVec<u32, 10>,
 }
 
 impl Model for Tally {
@@ -36,7 +34,6 @@ impl Tally {
         Tally {
             rows: Rows::new(alloc),
             last: None,
-            firsts: ArrayVec::new(),
         }
     }
 
@@ -45,11 +42,6 @@ impl Tally {
         ensures rows { result.now ≡ self.now.rows }
     {
         &self.rows
-    }
-
-    /// The first games.
-    pub(crate) fn firsts(&self) -> &[u32] {
-        self.firsts.as_slice()
     }
 
     /// Counts game `i`, unless it was counted before. No later game was.
@@ -64,9 +56,6 @@ impl Tally {
         }
         self.rows.add_hit(hit)?;
         self.last = Some(i);
-        if !self.firsts.is_full() {
-            self.firsts.push(i);
-        }
         Ok(())
     }
 }

@@ -1,4 +1,5 @@
 //! How games go from board to board.
+use crate::listing::{Listed, Listing, Worth};
 use arrayvec::ArrayVec;
 use cell_core::Move;
 use chess_laws::Position;
@@ -23,6 +24,7 @@ pub struct Way {
 pub(crate) struct Trail {
     links: Vec<Link>,
     pub(crate) way: Option<Way>,
+    pub(crate) listing: Listing,
 }
 
 impl Trail {
@@ -31,6 +33,7 @@ impl Trail {
         Trail {
             links: Vec::new(alloc),
             way: None,
+            listing: Listing::new(),
         }
     }
 
@@ -57,6 +60,10 @@ impl Trail {
 #[derive(Drop)]
 pub(crate) struct Tracker {
     depth: usize,
+    game: u32,
+    worth: Worth,
+    // How many half-moves it has gone.
+    ply: u32,
     start: Option<Position>,
     moves: ArrayVec<Move, 40>,
     // Whether it went on for more half-moves than a book has.
@@ -72,10 +79,13 @@ struct Left {
 }
 
 impl Tracker {
-    /// A game that has not come to the start of a book yet, which is so deep.
-    pub(crate) fn new(depth: u8) -> Tracker {
+    /// The game of this number, at its beginning, where the book is so deep.
+    pub(crate) fn new(depth: u8, game: u32, worth: Worth) -> Tracker {
         Tracker {
             depth: usize::from(depth),
+            game,
+            worth,
+            ply: 0,
             start: None,
             moves: ArrayVec::new(),
             over: false,
@@ -102,10 +112,15 @@ impl Tracker {
         if to == 0 && self.start.is_none() {
             self.start = Some(*position);
         }
-        match trails.get_mut(to) {
-            Some(trail) => self.tell_way(alloc, trail),
-            None => Ok(()),
-        }
+        let Some(trail) = trails.get_mut(to) else {
+            return Ok(());
+        };
+        trail.listing.list(&Listed {
+            number: self.game,
+            ply: self.ply,
+            worth: self.worth,
+        });
+        self.tell_way(alloc, trail)
     }
 
     // Tells a board how it was reached, if it was not told before.
@@ -124,6 +139,7 @@ impl Tracker {
     /// The game leaves that board by a move.
     pub(crate) fn leave(&mut self, here: Option<usize>, mv: Move) {
         self.left = left_by(here, &mv);
+        self.ply = self.ply.saturating_add(1);
         self.go_on(mv);
     }
 

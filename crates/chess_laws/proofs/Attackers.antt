@@ -1,5 +1,6 @@
 -- Who attacks a square: a pawn, a knight or a king that leaps, or a rook, a bishop or a queen that slides.
-use Rattle.chess_laws.proofs.Words.{◌≡◌, ◌↔◌, ℕ, ◌<◌, true, refl, arith, List, Any, ◌⊎◌, inl, inr, Some, cases_lt, nat_tests, Colour, White, Black, Kind, King, Queen, Rook, Bishop, Knight, Pawn, Men, man_at, man, other, Offset, rook_steps, bishop_steps, knight_steps, king_steps, pawn_captures, Leaps, Runs, Attacks, AttacksAs, Reaches, slides, LeapsFrom, SlidesFrom}
+use Rattle.chess_laws.proofs.Words.{◌≡◌, ◌↔◌, ℕ, ◌<◌, true, refl, arith, List, Any, ◌⊎◌, inl, inr, Some, cases_lt, nat_tests, Colour, White, Black, Kind, King, Queen, Rook, Bishop, Knight, Pawn, Men, man_at, man, other, Offset, rook_steps, bishop_steps, knight_steps, king_steps, pawn_captures, Leaps, Runs, Attacks, AttacksAs, Reaches, slides, LeapsFrom, SlidesFrom, SlidesTo, LeapsAs, Hits, length}
+use Rattle.chess_laws.proofs.Boards.{on_board}
 use Rattle.chess_laws.proofs.Lines.{any-slide, slide-any}
 use Rattle.chess_laws.proofs.Running.{walk-ends}
 use Rattle.chess_laws.proofs.Walks.{leaps-turned, runs-turned, shift-on_board, turns}
@@ -7,11 +8,10 @@ use Rattle.chess_laws.proofs.Walks.{leaps-turned, runs-turned, shift-on_board, t
 -- one that slides along the files and ranks or along the diagonals, or leaps as a knight, a pawn or a king
 abbrev pub Attackers : Men → Colour → ℕ → Type 0
 Attackers men c s =
-    Any (SlidesFrom men c Rook s) rook_steps
-    ⊎ (Any (SlidesFrom men c Bishop s) bishop_steps
+    SlidesTo men c s
     ⊎ (Any (LeapsFrom men (man c Knight) s) knight_steps
     ⊎ (Any (LeapsFrom men (man c Pawn) s) (pawn_captures (other c))
-    ⊎ Any (LeapsFrom men (man c King) s) king_steps)))
+    ⊎ Any (LeapsFrom men (man c King) s) king_steps))
 
 -- a man that leaps
 leaper : (men : Men) (c : Colour) (k : Kind) (s : ℕ) (steps away : List Offset) → turns away steps ≡ true → turns steps away ≡ true →
@@ -66,21 +66,43 @@ slider-from men c k s a each on_board stands to =
     let ends : s < 64 = walk-ends men to.1 to.4.0 a s to.4.1 in
     (n, o, less, at, record { from = a; on_board = on_board; stands = stands; target = ends; runs = runs })
 
+-- a man that slides stands where he is looked for
+sliding : (men : Men) (c : Colour) (k : Kind) (s a : ℕ) → a < 64 → man_at men a ≡ Some (man c k) → Any (Runs men a s) (slides k) → SlidesTo men c s
+sliding men c Rook s a on_board stands runs = inl (slider-from men c Rook s a refl on_board (inl stands) runs)
+sliding men c Bishop s a on_board stands runs = inr (slider-from men c Bishop s a refl on_board (inl stands) runs)
+sliding men c Queen s a on_board stands runs = elim (queen-as (Runs men a s) runs) [
+  | inl any ↦ inl (slider-from men c Rook s a refl on_board (inr stands) any)
+  | inr any ↦ inr (slider-from men c Bishop s a refl on_board (inr stands) any)
+]
+sliding men c k s a on_board stands runs = absurd (omega (arith, runs.2))
+
 -- who attacks is one of these, and the other way round
 pub by-attackers : (men : Men) (c : Colour) (s : ℕ) → Attackers men c s → Attacks men c s
-by-attackers men c s (inl any) = slider-attacks men c Rook s refl (λ a h. h) any
-by-attackers men c s (inr (inl any)) = slider-attacks men c Bishop s refl (λ a h. h) any
-by-attackers men c s (inr (inr (inl any))) = (Knight, (knight-told men c s).0 any)
-by-attackers men c s (inr (inr (inr (inl any)))) = (Pawn, (pawn-told men c s).0 any)
-by-attackers men c s (inr (inr (inr (inr any)))) = (King, (king-told men c s).0 any)
+by-attackers men c s (inl (inl any)) = slider-attacks men c Rook s refl (λ a h. h) any
+by-attackers men c s (inl (inr any)) = slider-attacks men c Bishop s refl (λ a h. h) any
+by-attackers men c s (inr (inl any)) = (Knight, (knight-told men c s).0 any)
+by-attackers men c s (inr (inr (inl any))) = (Pawn, (pawn-told men c s).0 any)
+by-attackers men c s (inr (inr (inr any))) = (King, (king-told men c s).0 any)
 
 pub attackers-of : (men : Men) (c : Colour) (s : ℕ) → Attacks men c s → Attackers men c s
-attackers-of men c s (Rook, h) = inl (slider-from men c Rook s h.from refl h.on_board (inl h.stands) h.reaches)
-attackers-of men c s (Bishop, h) = inr (inl (slider-from men c Bishop s h.from refl h.on_board (inl h.stands) h.reaches))
-attackers-of men c s (Queen, h) = elim (queen-as (Runs men h.from s) h.reaches) [
-  | inl any ↦ inl (slider-from men c Rook s h.from refl h.on_board (inr h.stands) any)
-  | inr any ↦ inr (inl (slider-from men c Bishop s h.from refl h.on_board (inr h.stands) any))
-]
-attackers-of men c s (Knight, h) = inr (inr (inl ((knight-told men c s).1 h)))
-attackers-of men c s (Pawn, h) = inr (inr (inr (inl ((pawn-told men c s).1 h))))
-attackers-of men c s (King, h) = inr (inr (inr (inr ((king-told men c s).1 h))))
+attackers-of men c s (Knight, h) = inr (inl ((knight-told men c s).1 h))
+attackers-of men c s (Pawn, h) = inr (inr (inl ((pawn-told men c s).1 h)))
+attackers-of men c s (King, h) = inr (inr (inr ((king-told men c s).1 h)))
+attackers-of men c s (k, h) = inl (sliding men c k s h.from h.on_board h.stands h.reaches)
+
+-- he slides, or leaps from where he stands
+pub slides-or-leaps : (men : Men) (c : Colour) (s : ℕ) → Attacks men c s → SlidesTo men c s ⊎ ((a : ℕ) × Hits men c a s)
+slides-or-leaps men c s (Knight, h) = inr (h.from, record { kind = Knight; stands = h.stands; leaps = h.reaches })
+slides-or-leaps men c s (Pawn, h) = inr (h.from, record { kind = Pawn; stands = h.stands; leaps = h.reaches })
+slides-or-leaps men c s (King, h) = inr (h.from, record { kind = King; stands = h.stands; leaps = h.reaches })
+slides-or-leaps men c s (k, h) = inl (sliding men c k s h.from h.on_board h.stands h.reaches)
+
+leaps-reach : (men : Men) (c : Colour) (k : Kind) (a s : ℕ) → LeapsAs c k a s → Reaches men c k a s
+leaps-reach men c King a s h = h
+leaps-reach men c Knight a s h = h
+leaps-reach men c Pawn a s h = h
+leaps-reach men c k a s h = absurd h
+
+pub hits-attack : (men : Men) (c : Colour) (a s : ℕ) → length men ≡ 64 → Hits men c a s → Attacks men c s
+hits-attack men c a s squares h =
+    (h.kind, record { from = a; on_board = on_board men a (man c h.kind) squares h.stands; stands = h.stands; reaches = leaps-reach men c h.kind a s h.leaps })

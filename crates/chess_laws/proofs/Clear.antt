@@ -1,5 +1,5 @@
 -- A walk along a line comes to its end where no man stands between.
-use Rattle.chess_laws.proofs.Words.{◌≡◌, ℕ, zero, suc, ◌^◌, ◌<◌, ◌↔◌, IsTrue, ◌&&◌, ◌⊎◌, ◌==◌, inl, inr, Bool, true, false, eqb, List, [], Option, Some, None, is_none, is_some, refl, sym, ◌∙◌, ap, arith, bit_at, bit_and, bit_or, agree_below, agree_below_at, and_parts, cases_Bool, cases_eq, eq-eqb, eqb-true, false≢true, ne_eqb, and-false, bit_at-lt, bit_at-pow_same, bit_at-pow_other, bit_at-zero, bit_at_and, bit_at_or, same_from_bits, Any, Colour, Kind, Queen, Man, is_man, man, Men, man_at, set_of, bit-set_of, Offset, shift, Runs, glides, line, run_on, slides, crossed_on, is_between, is_on, is_seen, entry, glider, offset_at, sliders, SlidesFrom, squares_of}
+use Rattle.chess_laws.proofs.Words.{◌≡◌, ℕ, zero, suc, ◌^◌, ◌<◌, ◌↔◌, IsTrue, ◌&&◌, ◌⊎◌, ◌==◌, inl, inr, Bool, true, false, eqb, List, [], Option, Some, None, is_none, is_some, refl, sym, ◌∙◌, ap, arith, bit_at, bit_and, bit_or, agree_below, agree_below_at, and_parts, cases_Bool, cases_eq, eq-eqb, eqb-true, false≢true, ne_eqb, and-false, bit_at-lt, bit_at-pow_same, bit_at-pow_other, bit_at-zero, bit_at_and, bit_at_or, same_from_bits, Any, Colour, Kind, Queen, Man, is_man, man, Men, man_at, set_of, bit-set_of, Offset, shift, Runs, glides, line, run_on, slides, crossed_on, is_between, is_seen, entry, offset_at, sliders, SlidesFrom, squares_of}
 use Rattle.chess_laws.specs.LegalTests.{run}
 use Rattle.chess_laws.specs.Between.{between, crossed, names_between, names_seen}
 use Rattle.chess_laws.proofs.Lines.{any-slide, line-walk, slide-any}
@@ -51,32 +51,16 @@ unfolding run crossed
 run-clear men o zero a b = refl
 run-clear men o (suc n) a b = run-step men b (shift o a) (run men o n b) (run [] o n b) (crossed o n b) (λ c. run-clear men o n c b)
 
--- what the table says of two squares, and that it has by each row those on that line
-told-of : (table : List (List ℕ)) (a b : ℕ) → names_between table ≡ true → a < 64 → b < 64
-    → (is_between table (line a b) a b ≡ true) × (agree_below (λ row. bit_at (entry table row a) b == 1) (is_on (line a b)) 8 ≡ true)
+-- what the table says of two squares
+told-of : (table : List (List ℕ)) (a b : ℕ) → names_between table ≡ true → a < 64 → b < 64 → is_between table (line a b) a b ≡ true
 unfolding names_between
-told-of table a b all a_less b_less =
-    and_parts (is_between table (line a b) a b) (agree_below (λ row. bit_at (entry table row a) b == 1) (is_on (line a b)) 8)
-    (pair-at (λ a b. is_between table (line a b) a b && agree_below (λ row. bit_at (entry table row a) b == 1) (is_on (line a b)) 8) 64 64 a b all a_less b_less)
-
-on-row : (x : Option ℕ) (row : ℕ) → is_on x row ≡ true → x ≡ Some row
-on-row None row h = absurd (false≢true h)
-on-row (Some r) row h = ap Some (eqb-true r row h)
-
-pub seen-row : (table : List (List ℕ)) (row a word : ℕ) → names_between table ≡ true → row < 8 → a < 64 → word ≡ entry table row a
-    → (b : ℕ) → b < 64 → (bit_at word b ≡ 1) ↔ (line a b ≡ Some row)
-seen-row table row a word all less a_less is b b_less =
-    let told = (told-of table a b all a_less b_less).1 in
-    let same = rw (← is) at (agree_below_at (λ row. bit_at (entry table row a) b == 1) (is_on (line a b)) 8 row told less) in (
-      λ set. on-row (line a b) row (sym same ∙ eq-eqb (bit_at word b) 1 set),
-      λ on. eqb-true (bit_at word b) 1 (same ∙ rw on (eq-eqb row row refl)),
-    )
+told-of table a b all a_less b_less = pair-at (λ a b. is_between table (line a b) a b) 64 64 a b all a_less b_less
 
 -- and tells whether the way is clear
 pub clear-told : (table : List (List ℕ)) (row a b word occupied : ℕ) (test : Bool) → names_between table ≡ true → Some row ≡ line a b → a < 64 → b < 64
     → word ≡ between table row a b → test ≡ eqb (bit_and word occupied) 0 → (men : Men) → occupied ≡ set_of is_some men → test ≡ run men (offset_at row) 8 b a
 clear-told table row a b word occupied test all on_line a_less b_less is told men full =
-    let on : is_between table (Some row) a b ≡ true = rw (← on_line) at (told-of table a b all a_less b_less).0 in
+    let on : is_between table (Some row) a b ≡ true = rw (← on_line) at (told-of table a b all a_less b_less) in
     let parts = and_parts (eqb (between table row a b) (crossed (offset_at row) 8 b a)) (run [] (offset_at row) 8 b a) on in
     rw (told, is, eqb-true (between table row a b) (crossed (offset_at row) 8 b a) parts.0, full, run-clear men (offset_at row) 8 a b, parts.1) refl
 
@@ -115,29 +99,6 @@ slides-told men c k s on word Squares test less is both seen told = (
       let l = any.4 in
       let runs : Any (Runs men s l.from) (slides k) = (any.0, any.1, any.2, any.3, l.runs) in
       told.1 (l.from, ((both l.from).1 (seen l.from runs, rw is ((slider-bit men c k l.from).1 l.stands)), runs)),
-)
-
--- the same along one line
-glider-glides : (row : ℕ) → row < 8 → glides (glider row) row ≡ true
-glider-glides row less = agree_below_at (λ row. glides (glider row) row) (λ row. true) 8 row refl less
-
-pub along-told : (men : Men) (c : Colour) (row s on word : ℕ) (Squares : ℕ → Type 0) (test : Bool) → row < 8 → s < 64 → word ≡ sliders men c (glider row)
-    → ((a : ℕ) → Squares a ↔ ((bit_at on a ≡ 1) × (bit_at word a ≡ 1))) → ((a : ℕ) → Runs men s a (offset_at row) → bit_at on a ≡ 1)
-    → ((a : ℕ) → a < 64 → bit_at on a ≡ 1 → line s a ≡ Some row)
-    → (IsTrue test ↔ ((a : ℕ) × (Squares a × Any (Runs men s a) (slides (glider row))))) → IsTrue test ↔ SlidesFrom men c (glider row) s (offset_at row)
-along-told men c row s on word Squares test row_less less is both seen lies told = (
-  λ h.
-      let found = told.0 h in
-      let slide = any-slide (glider row) (Runs men s found.0) found.1.1 in
-      let bits = (both found.0).0 found.1.0 in
-      let on_board = walk-ends men (offset_at slide.row) slide.holds.0 s found.0 slide.holds.1 in
-      let on_line = line-walk men slide.row slide.holds.0 s found.0 slide.less slide.holds.1 in
-      let same : slide.row ≡ row = cc (lies found.0 on_board bits.0) in
-      let stands = (slider-bit men c (glider row) found.0).0 (rw (← is) bits.1) in
-      record { from = found.0; on_board = on_board; stands = stands; target = less; runs = rw same at slide.holds },
-  λ l.
-      let squares = (both l.from).1 (seen l.from l.runs, rw is ((slider-bit men c (glider row) l.from).1 l.stands)) in
-      told.1 (l.from, (squares, slide-any (glider row) (Runs men s l.from) row row_less (glider-glides row row_less) l.runs)),
 )
 
 -- a table has all squares on the lines by which a kind of man slides

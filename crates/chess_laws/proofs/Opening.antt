@@ -1,81 +1,122 @@
--- What a move opens: an attack after it was there before, or comes from its target, or runs over the square that it left.
-use Rattle.chess_laws.proofs.Words.{◌≡◌, ℕ, zero, suc, ◌<◌, [], ◌∷◌, lit<, ◌⊎◌, inl, inr, ◌↔◌, IsTrue, Bool, true, false, ltb, Some, None, length, refl, sym, ◌∙◌, ap, arith, Any, slice_index_or, cases_Bool, cases_eq, false≢true, Decides, nat_tests, same_from_decides, Colour, Kind, King, Queen, Rook, Bishop, Knight, Pawn, Man, Move, Men, man_at, put, man, other, Setup, Effect, Plain, Offset, Walk, Runs, Attacks, Reaches, IsInCheck, IsOnlyKing, is_calm, glides, slides, in_check, Sound, king_square, Opens, Covers, Hits, SlidesFrom, glider, offset_at, effect_of, arriving, moved, board_after, after, Case, Legal}
-use Rattle.chess_laws.proofs.Boards.{man-colour, on_board, other-other, put-same, put-other}
+-- Who attacks after a move and did not before: the man that came, or one that slides.
+use Rattle.chess_laws.proofs.Words.{◌≡◌, ℕ, zero, suc, ◌⊎◌, inl, inr, ◌↔◌, IsTrue, Bool, true, Option, Some, None, length, refl, sym, ◌∙◌, ap, cases_eq, false≢true, Any, Decides, same_from_decides, OnFalse, OnTrue, not, false, Colour, Kind, King, Queen, Rook, Bishop, Man, Move, Men, man_at, put, man, other, Setup, Effect, Plain, Passing, Castle, Null, Offset, Walk, Runs, Attacks, IsInCheck, IsOnlyKing, is_calm, slides, in_check, Sound, king_square, rook_home, rook_target, passed_square, Hits, Shut, SlidesFrom, SlidesTo, effect_of, arriving, moved, board_after, after, Case, Legal}
+use Rattle.chess_laws.proofs.Attackers.{by-attackers, hits-attack, slides-or-leaps}
+use Rattle.chess_laws.proofs.Boards.{length-put, man-colour, man-kind, on_board, other-other, put-same, put-other}
 use Rattle.chess_laws.proofs.Clear.{Slider}
-use Rattle.chess_laws.proofs.Keeping.{moved-other, other-apart}
+use Rattle.chess_laws.proofs.Keeping.{other-apart}
 use Rattle.chess_laws.proofs.Following.{going, Going}
 use Rattle.chess_laws.proofs.Soundness.{checked}
 use Rattle.chess_laws.proofs.MovedKings.{legal-of, moved-lands, only-king-after, king-stays, resting-king, legal-allowed, Sound-after}
 use Rattle.chess_laws.proofs.Kings.{king-stands, king-only}
 use Rattle.chess_laws.proofs.Deciding.{in_check-Decides}
-use Rattle.chess_laws.proofs.Lines.{any-slide, slide-any, line-walk}
-use Rattle.chess_laws.proofs.Running.{walk-ends}
-use Rattle.chess_laws.proofs.Walks.{reversed, walk-back}
 
--- a man that slides by the step of a row
-slider : (men : Men) (c : Colour) (k : Kind) (row f : ℕ) → glides k row ≡ true → man_at men f ≡ Some (man c k) → Slider men c (glider row) f
-slider men c Queen row f is stands = inr stands
-slider men c Rook row f is stands = inl (rw is stands)
-slider men c Bishop row f is stands = let high : ltb row 4 ≡ false = grind (arith, nat_tests) in inl (rw high stands)
-slider men c k row f is stands = absurd (false≢true is)
+-- a man on a board stood there before something was put on a square, if he is not what was put
+put-was : (men : Men) (s : ℕ) (y : Option Man) (q : ℕ) (x : Man) → length men ≡ 64 → (q ≡ s → y ≡ Some x → ⊥) → man_at (put men s y) q ≡ Some x
+    → man_at men q ≡ Some x
+put-was men s y q x squares apart stands = elim (cases_eq q s) [
+  | inl here ↦
+      let less = on_board (put men s y) q x (length-put men s y squares) stands in
+      absurd (apart here (sym (put-same men s y squares (rw here at less)) ∙ rw here at stands))
+  | inr away ↦ sym (put-other men s q y away) ∙ stands
+]
 
--- the step back of a row has a row, by which the same men slide
-record Turn (row : ℕ) : Type 0 where
-  back : ℕ
-  less : back < 8
-  is : offset_at back ≡ reversed (offset_at row)
-  glides : glider back ≡ glider row
+-- so he stood there before a move, if he neither came nor is a rook that castled
+moved-was : (p : Setup) (m : Move) (q : ℕ) (x : Man) → length p.board ≡ 64 → (q ≡ m.to → arriving p m m.promo ≡ Some x → ⊥)
+    → man_at (moved p m) q ≡ Some x → man_at p.board q ≡ Some x
+moved-was p m q x squares came stands =
+    put-was p.board m.from None q x squares (λ here e. cc)
+    (put-was (put p.board m.from None) m.to (arriving p m m.promo) q x (length-put p.board m.from None squares) came stands)
 
-abbrev row_turned : ℕ → ℕ
-row_turned row = slice_index_or (1 ∷ 0 ∷ 3 ∷ 2 ∷ 7 ∷ 6 ∷ 5 ∷ 4 ∷ []) row 0
+after-was : (p : Setup) (m : Move) (e : Effect) (q : ℕ) (x : Man) → length p.board ≡ 64 → (q ≡ m.to → arriving p m m.promo ≡ Some x → ⊥)
+    → (x ≡ man p.side Rook → ⊥) → man_at (board_after p m e) q ≡ Some x → man_at p.board q ≡ Some x
+after-was p m Passing q x squares came rook stands =
+    let whole = length-put (put p.board m.from None) m.to (arriving p m m.promo) (length-put p.board m.from None squares) in
+    moved-was p m q x squares came (put-was (moved p m) (passed_square m) None q x whole (λ here e. cc) stands)
+after-was p m (Castle w) q x squares came rook stands =
+    let whole = length-put (put p.board m.from None) m.to (arriving p m m.promo) (length-put p.board m.from None squares) in
+    let home = rook_home p.side w in
+    let gone = length-put (moved p m) home None whole in
+    moved-was p m q x squares came
+    (put-was (moved p m) home None q x whole (λ here e. cc)
+    (put-was (put (moved p m) home None) (rook_target p.side w) (Some (man p.side Rook)) q x gone (λ here e. rook cc) stands))
+after-was p m Null q x squares came rook stands = stands
+after-was p m e q x squares came rook stands = moved-was p m q x squares came stands
 
-turn : (row : ℕ) → row < 8 → Turn row
-turn (suc (suc (suc (suc (suc (suc (suc zero))))))) less = record { back = row_turned 7; less = lit< tt; is = refl; glides = refl }
-turn (suc (suc (suc (suc (suc (suc (suc (suc row)))))))) less = absurd (omega arith)
-turn row less = record { back = row_turned row; less = lit< tt; is = refl; glides = refl }
+-- what is empty on a new board but for one square that was left was so before: a walk on it was one before, or runs over that square
+walk-over : (men new : Men) (a : ℕ) → ((q : ℕ) → (q ≡ a → ⊥) → man_at new q ≡ None → man_at men q ≡ None) → (o : Offset) (n s f : ℕ)
+    → Walk new o n s f → Walk men o n s f ⊎ Runs men s a o
+walk-over men new a empties o zero s f walk = inl walk
+walk-over men new a empties o (suc n) s f (q, step, empty, walk) = elim (cases_eq q a) [
+  | inl here ↦ inr (zero, step ∙ ap Some here)
+  | inr apart ↦ elim (walk-over men new a empties o n q f walk) [
+    | inl same ↦ inl (q, step, empties q apart empty, same)
+    | inr over ↦ inr (suc over.0, (q, step, empties q apart empty, over.1))
+  ]
+]
 
--- what is empty on a new board but for one square that was left was so before
-module _ (men new : Men) (a : ℕ) (empties : (q : ℕ) → (q ≡ a → ⊥) → man_at new q ≡ None → man_at men q ≡ None) (c : Colour) where
-  -- so a walk after the move was one before it, or runs over the square that was left
-  walk-over : (o : Offset) (n f s : ℕ) → Walk new o n f s → Walk men o n f s ⊎ (Runs men f a o × Runs new a s o)
-  walk-over o zero f s walk = inl walk
-  walk-over o (suc n) f s (q, step, empty, walk) = elim (cases_eq q a) [
-    | inl here ↦ inr ((zero, step ∙ ap Some here), (n, rw here at walk))
-    | inr apart ↦ elim (walk-over o n q s walk) [
-      | inl same ↦ inl (q, step, empties q apart empty, same)
-      | inr over ↦ inr ((suc over.0.0, (q, step, empties q apart empty, over.0.1)), over.1)
-    ]
+module _ (men new : Men) (c : Colour) (stood : (q : ℕ) (k : Kind) → man_at new q ≡ Some (man c k) → man_at men q ≡ Some (man c k)) where
+  stood-sliding : (k : Kind) (q : ℕ) → Slider new c k q → Slider men c k q
+  stood-sliding k q (inl h) = inl (stood q k h)
+  stood-sliding k q (inr h) = inr (stood q Queen h)
+
+  -- so who slides on the new board slid before, or over that square
+  slides-over : (a s : ℕ) → ((q : ℕ) → (q ≡ a → ⊥) → man_at new q ≡ None → man_at men q ≡ None) → (k : Kind)
+      → (Any (Runs men s a) (slides k) → ⊥) → Any (SlidesFrom new c k s) (slides k) → Any (SlidesFrom men c k s) (slides k)
+  slides-over a s empties k off (n, o, less, at, l) = elim (walk-over men new a empties o l.runs.0 s l.from l.runs.1) [
+    | inl was ↦
+        let slid : SlidesFrom men c k s o =
+        record { from = l.from; on_board = l.on_board; stands = stood-sliding k l.from l.stands; target = l.target; runs = (l.runs.0, was) } in
+        (n, o, less, at, slid)
+    | inr over ↦ absurd (off (n, o, less, at, over))
   ]
 
-  -- which opens the line, seen from its end
-  opens-over : (k : Kind) (row f s : ℕ) → row < 8 → glides k row ≡ true → f < 64 → man_at men f ≡ Some (man c k) →
-      Runs men f a (offset_at row) × Runs new a s (offset_at row) → Opens men c a s
-  opens-over k row f s less is on_board stands ((before, first), (behind, last)) =
-      let o = offset_at row in
-      let t = turn row less in
-      let a_less : a < 64 = walk-ends men o before f a first in
-      let last' : Walk new (offset_at t.back) behind s a = rw t.is (walk-back new o behind a s a_less last) in
-      let first' : Walk men (offset_at t.back) before a f = rw t.is (walk-back men o before f a on_board first) in
-      let stood : Slider men c (glider t.back) f = rw t.glides (slider men c k row f is stands) in
-      let slides : SlidesFrom men c (glider t.back) a (offset_at t.back) =
-      record { from = f; on_board = on_board; stands = stood; target = a_less; runs = (before, first') } in
-      record { row = t.back; less = t.less; on_line = line-walk new t.back behind s a t.less last'; slides = slides }
+  walk-through : ((q : ℕ) → man_at new q ≡ None → man_at men q ≡ None) → (o : Offset) (n s f : ℕ) → Walk new o n s f → Walk men o n s f
+  walk-through empties o zero s f walk = walk
+  walk-through empties o (suc n) s f (q, step, empty, walk) = (q, step, empties q empty, walk-through empties o n q f walk)
 
-  slide-over : (k : Kind) (f s : ℕ) → f < 64 → man_at men f ≡ Some (man c k) → Any (Runs new f s) (slides k) →
-      Any (Runs men f s) (slides k) ⊎ Opens men c a s
-  slide-over k f s less stands any =
-      let slide = any-slide k (Runs new f s) any in
-      elim (walk-over (offset_at slide.row) slide.holds.0 f s slide.holds.1) [
-        | inl was ↦ inl (slide-any k (Runs men f s) slide.row slide.less slide.glides (slide.holds.0, was))
-        | inr over ↦ inr (opens-over k slide.row f s slide.less slide.glides less stands over)
-      ]
+  slides-through : ((q : ℕ) → man_at new q ≡ None → man_at men q ≡ None) → (k : Kind) (s : ℕ) → Any (SlidesFrom new c k s) (slides k)
+      → Any (SlidesFrom men c k s) (slides k)
+  slides-through empties k s (n, o, less, at, l) =
+      let slid : SlidesFrom men c k s o =
+      record { from = l.from; on_board = l.on_board; stands = stood-sliding k l.from l.stands; target = l.target; runs = (l.runs.0, walk-through empties o l.runs.0 s l.from l.runs.1) } in
+      (n, o, less, at, slid)
 
-  -- a man that reached nothing before the move and stands where it stood reaches it over the square that was left
-  reach-over : (k : Kind) (f s : ℕ) → f < 64 → man_at men f ≡ Some (man c k) → Reaches new c k f s → Reaches men c k f s ⊎ Opens men c a s
-  reach-over King f s less stands reach = inl reach
-  reach-over Knight f s less stands reach = inl reach
-  reach-over Pawn f s less stands reach = inl reach
-  reach-over k f s less stands reach = slide-over k f s less stands reach
+-- where the square is on no line of s, it hid nobody who slides to s
+pub slides-off : (men : Men) (c : Colour) (a s : ℕ) → length men ≡ 64 → (Any (Runs men s a) (slides Rook) → ⊥) → (Any (Runs men s a) (slides Bishop) → ⊥)
+    → SlidesTo (put men a None) c s → SlidesTo men c s
+slides-off men c a s squares rooks bishops slid =
+    let new = put men a None in
+    let stood = λ (q : ℕ) (k : Kind) (h : man_at new q ≡ Some (man c k)). put-was men a None q (man c k) squares (λ here e. cc) h in
+    let empties = λ (q : ℕ) (apart : q ≡ a → ⊥) (empty : man_at new q ≡ None). sym (put-other men a q None apart) ∙ empty in
+    elim slid [
+      | inl any ↦ inl (slides-over men new c stood a s empties Rook rooks any)
+      | inr any ↦ inr (slides-over men new c stood a s empties Bishop bishops any)
+    ]
+
+-- where nobody slides anew to the mover's king over a square, it is shut
+pub shut_of : (p : Setup) (king a : ℕ) (over : Bool) → IsOnlyKing p.board p.side king → (IsInCheck p.board p.side → ⊥) → (a ≡ king → ⊥)
+    → OnFalse over (SlidesTo (put p.board a None) (other p.side) king → SlidesTo p.board (other p.side) king) → OnTrue (not over) (Shut p king a)
+shut_of p king a true only unchecked apart kept = tt
+shut_of p king a false only unchecked apart kept = record {
+  unchecked = unchecked;
+  apart = apart;
+  covered = λ slid. unchecked (king, only.stands, by-attackers p.board (other p.side) king (inl (kept slid)));
+}
+
+-- an enemy that slides after a man has gone to his target slides where the square that he left is empty
+moved-slides : (p : Setup) (m : Move) (s : ℕ) → Going p m → SlidesTo (moved p m) (other p.side) s → SlidesTo (put p.board m.from None) (other p.side) s
+moved-slides p m s g slid =
+    let gone = put p.board m.from None in
+    let whole = length-put p.board m.from None g.goes.squares in
+    let stood = λ (q : ℕ) (k : Kind) (h : man_at (moved p m) q ≡ Some (man (other p.side) k)).
+    put-was gone m.to (arriving p m m.promo) q (man (other p.side) k) whole
+    (λ here e. other-apart p.side (man-colour p.side (other p.side) g.becomes k (sym g.brings ∙ e))) h in
+    let empties = λ (q : ℕ) (empty : man_at (moved p m) q ≡ None).
+    sym (put-other gone m.to q (arriving p m m.promo) (λ here. cc (moved-lands p m g))) ∙ empty in
+    elim slid [
+      | inl any ↦ inl (slides-through gone (moved p m) (other p.side) stood empties Rook s any)
+      | inr any ↦ inr (slides-through gone (moved p m) (other p.side) stood empties Bishop s any)
+    ]
 
 -- a calm move is one of a man that goes, and changes the board by him
 calm-going : (p : Setup) (m : Move) (e : Effect) → Sound p → effect_of p m ≡ e → is_calm e ≡ true → Case p m e → Going p m
@@ -85,73 +126,53 @@ calm-board : (p : Setup) (m : Move) (e : Effect) → is_calm e ≡ true → boar
 calm-board p m Plain quiet = refl
 calm-board p m e quiet = cc
 
-moved-empties : (p : Setup) (m : Move) → Going p m → (q : ℕ) → (q ≡ m.from → ⊥) → man_at (moved p m) q ≡ None → man_at p.board q ≡ None
-moved-empties p m g q apart empty = sym (moved-other p m q apart (λ e. cc (moved-lands p m g))) ∙ empty
-
--- every man stands where it stood, but for the one on the target
-moved-stands : (p : Setup) (m : Move) → Going p m → (q : ℕ) (x : Man) → (q ≡ m.to → ⊥) → man_at (moved p m) q ≡ Some x → man_at p.board q ≡ Some x
-moved-stands p m g q x away stands =
-    let source = on_board p.board m.from (man p.side g.kind) g.goes.squares g.goes.from in
-    let kept = put-other (put p.board m.from None) m.to q (arriving p m m.promo) away in
-    sym (moved-other p m q (λ e. cc (kept, put-same p.board m.from None g.goes.squares source)) away) ∙ stands
-
--- where no line to a square is opened, and the man that came does not hit it, who attacks it did so before
-attack-before : (p : Setup) (m : Move) (c : Colour) (s : ℕ) → Going p m → (Opens p.board c m.from s → ⊥) → (Hits (moved p m) c m.to s → ⊥) →
-    Attacks (moved p m) c s → Attacks p.board c s
-attack-before p m c s g shut miss (k, h) = elim (cases_eq h.from m.to) [
-  | inl here ↦ absurd (miss (record { kind = k; stands = rw here at h.stands; reaches = rw here at h.reaches }))
-  | inr apart ↦
-      let was = moved-stands p m g h.from (man c k) apart h.stands in
-      elim (reach-over p.board (moved p m) m.from (moved-empties p m g) c k h.from s h.on_board was h.reaches) [
-        | inl same ↦ (k, record { from = h.from; on_board = h.on_board; stands = was; reaches = same })
-        | inr opens ↦ absurd (shut opens)
-      ]
-]
-
--- so where the mover's king was safe and no line to it is opened, it is safe
+-- so where the mover's king was safe and nobody slides to it over the square that is left, it is safe
 pub legal-calm : (p : Setup) (m : Move) (king : ℕ) → Sound p → IsOnlyKing p.board p.side king → Case p m (effect_of p m) → is_calm (effect_of p m) ≡ true →
-    (IsInCheck p.board p.side → ⊥) → Covers p king m.from → Legal p m
-legal-calm p m king sound only case quiet unchecked covers =
-    let g = calm-going p m (effect_of p m) sound refl quiet case in
+    Shut p king m.from → Legal p m
+legal-calm p m king sound only case quiet shut =
+    let e = effect_of p m in
+    let g = calm-going p m e sound refl quiet case in
     let next = only-king-after p m king sound only case in
-    let miss : Hits (moved p m) (other p.side) m.to king → ⊥ = λ h.
-    other-apart p.side (man-colour p.side (other p.side) g.becomes h.kind (sym (moved-lands p m g) ∙ h.stands)) in
     legal-of p m case (λ check.
     let attacked : Attacks (moved p m) (other p.side) king =
-    rw (calm-board p m (effect_of p m) quiet, next.only check.0 check.1 ∙ king-stays king m covers.apart) at check.2 in
-    unchecked (king, only.stands, attack-before p m (other p.side) king g covers.shut miss attacked))
+    rw (calm-board p m e quiet, next.only check.0 check.1 ∙ king-stays king m shut.apart) at check.2 in
+    elim (slides-or-leaps (moved p m) (other p.side) king attacked) [
+      | inl slid ↦ shut.covered (moved-slides p m king g slid)
+      | inr (q, hits) ↦
+          let x = man (other p.side) hits.kind in
+          let stood = moved-was p m q x sound.squares (λ here e. other-apart p.side (man-colour p.side (other p.side) g.becomes hits.kind (sym g.brings ∙ e))) hits.stands in
+          let before : Hits p.board (other p.side) q king = record { kind = hits.kind; stands = stood; leaps = hits.leaps } in
+          shut.unchecked (king, only.stands, hits-attack p.board (other p.side) q king sound.squares before)
+    ])
 
-hits-attack : (men : Men) (c : Colour) (a s : ℕ) → length men ≡ 64 → Hits men c a s → Attacks men c s
-hits-attack men c a s squares h =
-    (h.kind, record { from = a; on_board = on_board men a (man c h.kind) squares h.stands; stands = h.stands; reaches = h.reaches })
-
--- so the test of what came and of what was opened tells of check
-pub check-told : (p : Setup) (m : Move) (s : ℕ) (opened test : Bool) → Sound p → Legal p m → s ≡ king_square p.board (other p.side) →
-    (opened ≡ false → (is_calm (effect_of p m) ≡ true) × (Opens p.board p.side m.from s → ⊥)) →
-    (IsTrue test ↔ (Hits (board_after p m (effect_of p m)) p.side m.to s ⊎ ((opened ≡ true) × Attacks (board_after p m (effect_of p m)) p.side s))) →
+-- so the man that came, if he leaps, and those who slide tell of check
+pub check-told : (p : Setup) (m : Move) (s : ℕ) (test : Bool) → Sound p → Legal p m → s ≡ king_square p.board (other p.side) →
+    (IsTrue test ↔ (Hits (board_after p m (effect_of p m)) p.side m.to s ⊎ SlidesTo (board_after p m (effect_of p m)) p.side s)) →
     test ≡ in_check (after p m (effect_of p m))
-check-told p m s opened test sound legal is shut told =
+check-told p m s test sound legal is told =
     let e = effect_of p m in
     let men = board_after p m e in
-    let case = legal-allowed p m legal in
     let next = Sound-after p m sound legal in
     let stood : man_at p.board s ≡ Some (man (other p.side) King) = rw is (king-stands p.board (other p.side) (sound.kings (other p.side))) in
-    let stands = resting-king p m e s sound stood refl case in
+    let stands = resting-king p m e s sound stood refl (legal-allowed p m legal) in
     let attacked = checked men (other p.side) s (next.kings (other p.side)) (king-only men (other p.side) s (next.kings (other p.side)) stands) in
     let decides : Decides test (IsInCheck men (other p.side)) = (
-      λ h. attacked.0 (rw (other-other p.side) (elim (told.0 h) [ inl hits ↦ hits-attack men p.side m.to s next.squares hits | inr full ↦ full.1 ])),
+      λ h.
+          attacked.0 (rw (other-other p.side) (elim (told.0 h) [
+            | inl hits ↦ hits-attack men p.side m.to s next.squares hits
+            | inr slid ↦ by-attackers men p.side s (inl slid)
+          ])),
       λ check.
           let here : Attacks men p.side s = rw (other-other p.side) at (attacked.1 check) in
-          elim (cases_Bool opened) [
-            | inl ajar ↦ told.1 (inr (ajar, here))
-            | inr closed ↦ elim (cases_Bool test) [
-              | inl found ↦ found
-              | inr failed ↦
-                  let both = shut closed in
-                  let board = calm-board p m e both.0 in
-                  let miss = λ (hits : Hits (moved p m) p.side m.to s). false≢true (sym failed ∙ told.1 (inl (rw board hits))) in
-                  let before = attack-before p m p.side s (calm-going p m e sound refl both.0 case) both.1 miss (rw board at here) in
-                  absurd (sound.not_in_check (s, stood, rw (other-other p.side) before))
+          elim (slides-or-leaps men p.side s here) [
+            | inl slid ↦ told.1 (inr slid)
+            | inr (q, hits) ↦ elim (cases_eq q m.to) [
+              | inl came ↦ told.1 (inl (rw came at hits))
+              | inr apart ↦
+                  let was = after-was p m e q (man p.side hits.kind) sound.squares (λ came e. absurd (apart came))
+                  (λ rook. absurd (rw (man-kind p.side p.side hits.kind Rook (ap (λ (x : Man). Some x) rook)) at hits.leaps)) hits.stands in
+                  let before : Hits p.board p.side q s = record { kind = hits.kind; stands = was; leaps = hits.leaps } in
+                  absurd (sound.not_in_check (s, stood, rw (other-other p.side) (hits-attack p.board p.side q s sound.squares before)))
             ]
           ],
     ) in

@@ -11,7 +11,7 @@ pub use Rattle.cell_core.specs.declared.man.Kind.TheVariants.{King, Queen, Rook,
 pub use Rattle.cell_core.specs.declared.man.Man.{Man}
 pub use Rattle.cell_core.specs.declared.step.Move.{Move}
 pub use Rattle.chess_laws.specs.Attacks.{Attacks, AttacksAs, Reaches, IsInCheck}
-pub use Rattle.chess_laws.specs.Between.{crossed_on, is_between, is_on, is_seen}
+pub use Rattle.chess_laws.specs.Between.{crossed_on, is_between, is_seen}
 pub use Rattle.chess_laws.specs.Castling.{rook_home, rook_target, king_path, has_right, king_home, king_target, keeps, rights_after, StandAtHome}
 pub use Rattle.chess_laws.specs.Counts.{counts_of, count_of, fewer, is_home}
 pub use Rattle.chess_laws.specs.Geometry.{Offset, rook_steps, bishop_steps, knight_steps, king_steps, pawn_captures, Leaps, Runs, rank_of, shift, forward, Walk, file_of, square, line_at}
@@ -21,7 +21,7 @@ pub use Rattle.chess_laws.specs.LegalNow.{leaps_now, reaches_now, attacks_now, i
 pub use Rattle.chess_laws.specs.LegalTests.{slides, IsOnlyKing, glides, line, run, run_on, takes_target, line_of, king_after, is_calm, is_home_square}
 pub use Rattle.chess_laws.specs.Moves.{HasMoreMoves, IsMove, place_of, promotion_number, Ascends, ListsMoves}
 pub use Rattle.chess_laws.specs.Position.{Sound, HasKings, HasPawnsInside, HasFewMen, HasFitRights, HasFitEnPassant, king_square, en_passant_rank, start_men, start_setup, is_start, is_at_home, rights_of, has_bit}
-pub use Rattle.chess_laws.specs.Rays.{LeapsFrom, SlidesFrom, entry, glider, offset_at, sliders, row_of, same_offset, Opens, Covers, Hits, Leaves, is_named, target_by}
+pub use Rattle.chess_laws.specs.Rays.{LeapsFrom, SlidesFrom, SlidesTo, entry, offset_at, sliders, row_of, same_offset, Shut, LeapsAs, Hits, Leaves, is_named, target_by}
 pub use Rattle.chess_laws.specs.Step.{Case, Legal, arriving, effect_of, board_after, moved, after, pawn_rank, passed_square, promotes_rightly, HasNoOwn, GoesPlainly, PassingCase, CastleCase, last_rank, rights_left, en_passant_after, effect_as, may_become, PlainCase, DoubleCase, changes_file, goes_two, Step}
 pub use Rattle.chess_laws.specs.Targets.{Known, ListsBelow, goes, Comes, IsKnown, Has, MayPromote, PawnComes, PawnGoes}
 pub use Rattle.chess_laws.specs.Ways.{is_row, way}

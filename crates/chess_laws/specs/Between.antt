@@ -28,17 +28,9 @@ abbrev pub is_between : List (List ℕ) → Option ℕ → ℕ → ℕ → Bool
 is_between table None a b = true
 is_between table (Some row) a b = (between table row a b == crossed (offset_at row) 8 b a) && run [] (offset_at row) 8 b a
 
--- Whether this is the row of the line.
-abbrev pub is_on : Option ℕ → ℕ → Bool
-is_on None row = false
-is_on (Some r) row = r == row
-
--- Whether it says so of any two squares, and has by each row the squares on that line.
+-- Whether it says so of any two squares.
 unfoldable pub names_between : List (List ℕ) → Bool
-names_between table =
-    agree_below
-    (λ a. agree_below (λ b. is_between table (line a b) a b && agree_below (λ row. bit_at (entry table row a) b == 1) (is_on (line a b)) 8) (λ b. true) 64)
-    (λ a. true) 64
+names_between table = agree_below (λ a. agree_below (λ b. is_between table (line a b) a b) (λ b. true) 64) (λ a. true) 64
 
 -- Whether a table has, for each square, all on the lines by which a man of this kind slides.
 abbrev pub is_seen : Kind → ℕ → Option ℕ → ℕ → Bool

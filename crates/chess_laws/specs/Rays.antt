@@ -1,20 +1,19 @@
 -- What the code looks for, from the square that is attacked to the attacker. No public contract cites these words.
-use Rattle.std.specs.Prelude.{◌≡◌, ℕ, ◌<◌, ◌⊎◌, Bool, ◌&&◌, ◌==◌, nat_le, nat_lt, if◌then◌else◌, List, [], ◌++◌, slice_index_or, Option, Some, None, is_some}
+use Rattle.std.specs.Prelude.{◌≡◌, ℕ, ◌<◌, ◌⊎◌, Any, Bool, ◌&&◌, ◌==◌, nat_le, List, [], ◌++◌, slice_index_or, Option, Some, None, is_some}
 use Rattle.std.specs.Int.RustNames.{bit_and, bit_or}
 use Rattle.std.specs.List.{position_or_len}
 use Rattle.std.proofs.Common.{true, eqb, refl}
 use Rattle.std.proofs.lemmas.Bool.{agree_below, agree_below_at, eqb-true}
 use Rattle.cell_core.specs.declared.man.Colour.{Colour}
 use Rattle.cell_core.specs.declared.man.Kind.{Kind}
-use Rattle.cell_core.specs.declared.man.Kind.TheVariants.{Queen, Rook, Bishop}
+use Rattle.cell_core.specs.declared.man.Kind.TheVariants.{King, Queen, Rook, Bishop, Knight, Pawn}
 use Rattle.cell_core.specs.declared.man.Man.{Man}
-use Rattle.cell_core.specs.Board.{Men, man_at}
+use Rattle.cell_core.specs.Board.{Men, man_at, put}
 use Rattle.cell_core.specs.Man.{is_man, man, other}
 use Rattle.cell_core.specs.Sets.{is_kind, set_of}
 use Rattle.chess_laws.specs.declared.setup.Setup.{Setup}
-use Rattle.chess_laws.specs.Attacks.{IsInCheck, Reaches}
-use Rattle.chess_laws.specs.LegalTests.{line}
-use Rattle.chess_laws.specs.Geometry.{Offset, by, king_steps, knight_steps, shift, Leaps, Runs}
+use Rattle.chess_laws.specs.Attacks.{IsInCheck}
+use Rattle.chess_laws.specs.Geometry.{Offset, bishop_steps, by, king_steps, knight_steps, pawn_captures, rook_steps, shift, Leaps, Runs}
 
 -- The steps that the code has, by their rows in its tables.
 abbrev pub offsets : List Offset
@@ -71,32 +70,28 @@ is_named (Some a) t = t == a
 unfoldable pub names_all : List (List ℕ) → Bool
 names_all table = agree_below (λ row. agree_below (λ s. is_named (target_by row s) (entry table row s)) (λ s. true) 64) (λ row. true) 16
 
--- What slides by the step of a row besides a queen.
-abbrev pub glider : ℕ → Kind
-glider row = if nat_lt row 4 then Rook else Bishop
+-- A rook, a bishop or a queen of this colour slides to s.
+abbrev pub SlidesTo : Men → Colour → ℕ → Type 0
+SlidesTo men c s = Any (SlidesFrom men c Rook s) rook_steps ⊎ Any (SlidesFrom men c Bishop s) bishop_steps
 
--- A man that leaves a for elsewhere opens the line to s: it stands between s and a man of the colour that slides along it.
-pub record Opens (men : Men) (c : Colour) (a s : ℕ) : Type 0 where
-  pub row : ℕ
-  pub less : row < 8
-  pub on_line : line s a ≡ Some row
-  pub slides : SlidesFrom men c (glider row) a (offset_at row)
-
--- Another man than the mover's king stands on the square, and opens no line to it.
-pub record Covers (p : Setup) (king a : ℕ) : Type 0 where
-  pub apart : a ≡ king → ⊥
-  pub shut : Opens p.board (other p.side) a king → ⊥
-
--- The mover's king is not in check, and is not what leaves the square or is uncovered by it.
+-- The mover's king is not in check, is not what leaves the square, and no enemy slides to it where the square is empty.
 pub record Shut (p : Setup) (king a : ℕ) : Type 0 where
   pub unchecked : IsInCheck p.board p.side → ⊥
-  pub covers : Covers p king a
+  pub apart : a ≡ king → ⊥
+  pub covered : SlidesTo (put p.board a None) (other p.side) king → ⊥
 
--- A man of this colour stands on a and reaches b.
+-- A man of this kind leaps from a to b.
+abbrev pub LeapsAs : Colour → Kind → ℕ → ℕ → Type 0
+LeapsAs c King a b = Any (Leaps a b) king_steps
+LeapsAs c Knight a b = Any (Leaps a b) knight_steps
+LeapsAs c Pawn a b = Any (Leaps a b) (pawn_captures c)
+LeapsAs c k a b = ⊥
+
+-- A man of this colour stands on a and leaps to b.
 pub record Hits (men : Men) (c : Colour) (a b : ℕ) : Type 0 where
   pub kind : Kind
   pub stands : man_at men a ≡ Some (man c kind)
-  pub reaches : Reaches men c kind a b
+  pub leaps : LeapsAs c kind a b
 
 -- Of the men of a colour on one board these squares are left on another, and on these squares some man stands there.
 pub record Leaves (men : Men) (c : Colour) (own full : ℕ) (new : Men) : Type 0 where

@@ -3,8 +3,8 @@ ghost use Rattle.std.specs.Prelude.{◌<◌, ℕ, Some, true, ◌≡◌, ◌↔�
 ghost use Rattle.chess_laws.specs.Attacks.{Attacks};
 ghost use Rattle.chess_laws.specs.Between.{names_seen};
 ghost use Rattle.chess_laws.specs.LegalTests.{slides};
-ghost use Rattle.chess_laws.specs.Geometry.{Leaps, Offset as Steps, Runs};
-ghost use Rattle.chess_laws.specs.Rays.{glider, offset_at, sliders, Leaves, LeapsFrom, Opens, SlidesFrom};
+ghost use Rattle.chess_laws.specs.Geometry.{bishop_steps, rook_steps, Leaps, Offset as Steps, Runs};
+ghost use Rattle.chess_laws.specs.Rays.{sliders, Leaves, LeapsFrom, SlidesFrom, SlidesTo};
 ghost use Rattle.chess_laws.specs.Targets.{Has};
 ghost use Rattle.cell_core.specs.Board.{man_at, Men};
 ghost use Rattle.cell_core.specs.Man.{is_man, man};
@@ -12,10 +12,9 @@ ghost use Rattle.cell_core.specs.Sets.{set_of};
 ghost use Rattle.cell_core.specs.declared.man.Colour.{Colour as TheColour};
 ghost use Rattle.cell_core.specs.declared.man.Kind.{Kind as TheKind};
 
-use super::between::{runs, seen};
+use super::between::runs;
 use super::leaps::{capture_squares, king_squares, knight_squares};
 use super::left::Left;
-use super::offset::line;
 use super::targets::SquareSet;
 use cell_core::{Board, Colour, Kind, Man, Square};
 
@@ -27,17 +26,10 @@ pub fn attacks(board: &Board, by: Colour, s: Square) -> bool
 }
 
 /// Whether some man of the colour `by` attacks the square `s`, where these of its men are left of the board.
-#[tactic(auto, unfolding(crate::specs::LegalTests::line, crate::specs::Between::names_seen))]
 pub fn attacks_left(board: &Board, left: Left, by: Colour, s: Square) -> bool
     ensures { (new : Men) → Leaves board.now by left.men left.occupied new → IsTrue result ↔ Attacks new by s }
 {
-    let queens = left.of_kind(board, Kind::Queen);
-    let rooks = left.of_kind(board, Kind::Rook) | queens;
-    if slides(rooks, left.occupied(), Kind::Rook, &ROOK_LINES, s) {
-        return true;
-    }
-    let bishops = left.of_kind(board, Kind::Bishop) | queens;
-    if slides(bishops, left.occupied(), Kind::Bishop, &BISHOP_LINES, s) {
+    if slides_left(board, left, by, s) {
         return true;
     }
     if leaps(knight_squares(s), left.of_kind(board, Kind::Knight)) {
@@ -52,12 +44,46 @@ pub fn attacks_left(board: &Board, left: Left, by: Colour, s: Square) -> bool
     leaps(king_squares(s), left.of_kind(board, Kind::King))
 }
 
+/// Whether some man of the colour `by` that slides attacks the square `s`, where these of its men are left of the board.
+#[inline(always)]
+#[tactic(auto, unfolding(crate::specs::LegalTests::line, crate::specs::Between::names_seen))]
+pub fn slides_left(board: &Board, left: Left, by: Colour, s: Square) -> bool
+    ensures { (new : Men) → Leaves board.now by left.men left.occupied new → IsTrue result ↔ SlidesTo new by s }
+{
+    let queens = left.of_kind(board, Kind::Queen);
+    let rooks = left.of_kind(board, Kind::Rook) | queens;
+    if slides(rooks, left.occupied(), Kind::Rook, &ROOK_LINES, s) {
+        return true;
+    }
+    let bishops = left.of_kind(board, Kind::Bishop) | queens;
+    slides(bishops, left.occupied(), Kind::Bishop, &BISHOP_LINES, s)
+}
+
 /// Whether one of these men stands on a square to which steps lead from a square.
 #[inline(always)]
 fn leaps(squares: SquareSet, men: u64) -> bool
     ensures { (new : Men) (c : TheColour) (k : TheKind) (s : ℕ) (steps : List Steps) → men ≡ set_of (is_man c k) new → s < 64 → ((b : ℕ) → Has squares b ↔ Any (Leaps s b) steps) → IsTrue result ↔ Any (LeapsFrom new (man c k) s) steps }
 {
     squares.meets(men)
+}
+
+/// Whether a file, a rank or a diagonal has both squares.
+#[inline(always)]
+#[tactic(auto, unfolding(crate::specs::LegalTests::line, crate::specs::Between::names_seen))]
+pub fn are_on_line(s: Square, t: Square) -> bool
+    ensures rooks { (men : Men) → Any (Runs men s t) rook_steps → IsTrue result }
+    ensures bishops { (men : Men) → Any (Runs men s t) bishop_steps → IsTrue result }
+{
+    is_seen(&ROOK_LINES, Kind::Rook, s, t) || is_seen(&BISHOP_LINES, Kind::Bishop, s, t)
+}
+
+// Whether a table of lines has one square on those of this kind of man through the other.
+#[inline(always)]
+fn is_seen(lines: &[u64; 64], kind: Kind, s: Square, t: Square) -> bool
+    requires lines { names_seen lines.now kind ≡ true }
+    ensures { (men : Men) → Any (Runs men s t) (slides kind) → IsTrue result }
+{
+    SquareSet::of_bits(lines[s.index() as usize]).has(t)
 }
 
 /// Whether such a man stands on the square.
@@ -103,44 +129,6 @@ fn come_along(squares: SquareSet, occupied: u64, kind: Kind, s: Square) -> bool
         at = a.index() + 1;
     }
     false
-}
-
-/// What slides by the step of a row besides a queen.
-#[inline(always)]
-fn glider(row: u8) -> Kind
-    ensures { result ≡ glider row }
-{
-    if row < 4 { Kind::Rook } else { Kind::Bishop }
-}
-
-/// The men of this colour and kind, and the queens of the colour.
-#[inline(always)]
-fn sliders(board: &Board, by: Colour, kind: Kind) -> u64
-    ensures { result ≡ sliders board.now by kind }
-{
-    board.of_man(by, kind) | board.of_man(by, Kind::Queen)
-}
-
-// Whether a man that leaves `from` for elsewhere opens the line from a man of this colour to the square `s`.
-#[inline(always)]
-pub fn opens(board: &Board, by: Colour, from: Square, s: Square) -> bool
-    ensures { IsTrue result ↔ Opens board.now by from s }
-{
-    match line(s, from) {
-        None => false,
-        Some(row) => slides_along(board, by, row, from),
-    }
-}
-
-// Whether a man of this colour slides to the square from where the step of this row leads.
-#[inline(always)]
-fn slides_along(board: &Board, by: Colour, row: u8, s: Square) -> bool
-    requires row { row < 8 }
-    ensures { IsTrue result ↔ SlidesFrom board.now by (glider row) s (offset_at row) }
-{
-    let kind = glider(row);
-    let there = SquareSet::of_bits(seen(row, s)).within(sliders(board, by, kind));
-    come(there, board.occupied(), kind, s)
 }
 
 // The files and ranks through each square.

@@ -77,29 +77,6 @@ fn between_in(table: &[[u64; 64]; 8], row: u8, from: Square, to: Square) -> u64
     table[row as usize][first as usize] & !table[row as usize][second as usize] & !(1u64 << second)
 }
 
-/// Where equal steps of this row lead from the square, to the edge of the board: the square `b` is the bit `b`.
-#[inline(always)]
-pub fn seen(row: u8, s: Square) -> u64
-    requires row { row < 8 }
-    ensures seen { (men : Men) (b : ℕ) → Runs men s b (offset_at row) → bit_at result b ≡ 1 }
-    ensures line { (b : ℕ) → b < 64 → bit_at result b ≡ 1 → line s b ≡ Some row }
-    ensures on_board { s < 64 }
-{
-    seen_in(&RAYS, row, s)
-}
-
-// The same, by a table of where each step leads.
-#[inline(always)]
-fn seen_in(table: &[[u64; 64]; 8], row: u8, s: Square) -> u64
-    requires row { row < 8 }
-    requires says { names_between table.now ≡ true }
-    ensures seen { (men : Men) (b : ℕ) → Runs men s b (offset_at row) → bit_at result b ≡ 1 }
-    ensures line { (b : ℕ) → b < 64 → bit_at result b ≡ 1 → line s b ≡ Some row }
-    ensures on_board { s < 64 }
-{
-    table[row as usize][s.index() as usize]
-}
-
 // Where equal steps of each of the first eight lead from each square, to the edge.
 const RAYS: [[u64; 64]; 8] = [
     [

@@ -1,10 +1,10 @@
 //! Which moves the rules of each kind of half-move allow, apart from the safety of the mover's king.
-ghost use Rattle.std.specs.Prelude.{◌≡◌, ◌↔◌, IsTrue, Any, Some, None};
+ghost use Rattle.std.specs.Prelude.{◌≡◌, ◌↔◌, true, IsTrue, Any, Some, None};
 ghost use Rattle.cell_core.specs.Board.{man_at};
 ghost use Rattle.cell_core.specs.Man.{man, other};
 ghost use Rattle.chess_laws.specs.Geometry.{forward, pawn_captures, rank_of, Leaps, Runs, Walk};
 ghost use Rattle.chess_laws.specs.Attacks.{Reaches, IsInCheck};
-ghost use Rattle.chess_laws.specs.LegalTests.{IsOnlyKing, MayCastle, slides, IsEnemyOn};
+ghost use Rattle.chess_laws.specs.LegalTests.{IsOnlyKing, MayCastle, is_calm, slides, IsEnemyOn};
 ghost use Rattle.chess_laws.specs.Step.{Case, CastleCase, DoubleCase, GoesPlainly, HasNoOwn, NullCase, PassingCase, PlainCase, last_rank, may_become, pawn_rank, promotes_rightly};
 
 use super::attack::{attacks, stands};
@@ -41,9 +41,24 @@ fn is_plain(p: &Setup, m: &Move) -> bool
     standing.colour == p.side && is_plain_of(p, standing.kind, m)
 }
 
+/// Whether the rules of its kind allow the move, a plain one or a double step of the mover's man of this kind, which stands where it
+/// begins.
+#[inline(always)]
+pub fn is_calm_of(p: &Setup, kind: Kind, m: &Move, effect: Effect) -> bool
+    requires stands { man_at p.now.board m.now.from ≡ Some (man p.now.side kind) }
+    requires calm { is_calm effect ≡ true }
+    ensures { IsTrue result ↔ Case p.now m.now effect }
+{
+    match effect {
+        Effect::Plain => is_plain_of(p, kind, m),
+        Effect::Double => is_double(p, m),
+        Effect::Passing | Effect::Castle(_) | Effect::Null => false,
+    }
+}
+
 /// Whether it is a plain move or capture of the mover's man of this kind, which stands where it begins.
 #[inline(always)]
-pub fn is_plain_of(p: &Setup, kind: Kind, m: &Move) -> bool
+fn is_plain_of(p: &Setup, kind: Kind, m: &Move) -> bool
     requires stands { man_at p.now.board m.now.from ≡ Some (man p.now.side kind) }
     ensures { IsTrue result ↔ PlainCase p.now m.now }
 {

@@ -62,9 +62,9 @@ impl Left {
         self.emptied(m.from).entered(m.to)
     }
 
-    // What stands on the square is gone.
+    /// What stands on the square is gone.
     #[inline(always)]
-    fn emptied(self, s: Square) -> Left
+    pub fn emptied(self, s: Square) -> Left
         ensures { (men new : Men) (c : TheColour) → length new ≡ 64 → Leaves men c self.men self.occupied new → Leaves men c result.men result.occupied (put new s None) }
     {
         let others = !(1u64 << s.index());

@@ -1,17 +1,16 @@
 //! Which moves are legal.
-ghost use Rattle.std.specs.Prelude.{◌≡◌, ◌↔◌, ◌&&◌, IsTrue, Some, false};
-ghost use Rattle.std.specs.Bool.{OnTrue};
-ghost use Rattle.cell_core.specs.Board.{man_at};
-ghost use Rattle.cell_core.specs.Man.{man};
+ghost use Rattle.std.specs.Prelude.{◌≡◌, ◌↔◌, ◌&&◌, true, IsTrue, None, Some, length};
+ghost use Rattle.std.specs.Bool.{OnFalse, OnTrue};
+ghost use Rattle.cell_core.specs.Board.{man_at, put};
+ghost use Rattle.cell_core.specs.Man.{man, other};
 ghost use Rattle.chess_laws.specs.LegalTests.{IsOnlyKing, is_calm, king_after};
 ghost use Rattle.chess_laws.specs.Attacks.{IsInCheck};
-ghost use Rattle.chess_laws.specs.declared.effect.Effect.TheVariants.{Plain};
-ghost use Rattle.chess_laws.specs.Rays.{Covers, Shut};
+ghost use Rattle.chess_laws.specs.Rays.{Shut, SlidesTo};
 ghost use Rattle.chess_laws.specs.Position.{Sound};
 ghost use Rattle.chess_laws.specs.Step.{board_after, effect_of, Case, Legal};
 
-use super::attack::{attacks_left, opens};
-use super::cases::{is_allowed, is_plain_of};
+use super::attack::{are_on_line, attacks_left, slides_left};
+use super::cases::{is_allowed, is_calm_of};
 use super::effect::Effect;
 use super::left::Left;
 use super::next::effect_of;
@@ -43,30 +42,47 @@ pub fn is_legal_as(p: &Setup, king: Square, checked: bool, m: &Move, effect: Eff
     is_legal_allowed(p, king, shut, m, effect)
 }
 
-/// Whether the move is legal, which is a plain one of the mover's man of this kind.
+/// Whether the move is legal, which is a plain one or a double step of the mover's man of this kind.
 #[inline(always)]
-pub fn is_legal_plain(p: &Setup, king: Square, checked: bool, kind: Kind, m: &Move) -> bool
+pub fn is_legal_calm(
+    p: &Setup,
+    king: Square,
+    checked: bool,
+    kind: Kind,
+    m: &Move,
+    effect: Effect,
+) -> bool
     requires sound { Sound p.now }
     requires king { IsOnlyKing p.now.board p.now.side king }
     requires check { IsTrue checked ↔ IsInCheck p.now.board p.now.side }
     requires stands { man_at p.now.board m.now.from ≡ Some (man p.now.side kind) }
-    requires effect { Plain ≡ effect_of p.now m.now }
+    requires effect { effect ≡ effect_of p.now m.now }
+    requires calm { is_calm effect ≡ true }
     ensures { IsTrue result ↔ Legal p.now m.now }
 {
-    if !is_plain_of(p, kind, m) {
+    if !is_calm_of(p, kind, m, effect) {
         return false;
     }
     let shut = is_shut(p, king, checked, m.from);
-    is_legal_allowed(p, king, shut, m, Effect::Plain)
+    is_legal_allowed(p, king, shut, m, effect)
 }
 
 /// Whether the mover's king is safe after each calm move from this square.
 #[inline(always)]
+#[tactic(auto, using(crate::proofs::Opening::shut_of))]
 pub fn is_shut(p: &Setup, king: Square, checked: bool, from: Square) -> bool
+    requires sound { Sound p.now }
+    requires king { IsOnlyKing p.now.board p.now.side king }
     requires check { IsTrue checked ↔ IsInCheck p.now.board p.now.side }
     ensures { OnTrue result (Shut p.now king from) }
 {
-    !checked && !uncovers(p, king, from)
+    if checked {
+        return false;
+    }
+    if from == king {
+        return false;
+    }
+    !uncovers(p, king, from)
 }
 
 /// Whether the move, which is of this kind, is legal, where the square it leaves may be shut.
@@ -134,10 +150,22 @@ pub fn is_calm(effect: Effect) -> bool
     }
 }
 
-// Whether the mover's king is what leaves this square, or is open to an attack when another man leaves it.
+// Whether an enemy may slide to the king over this square, where nothing stands on it.
 #[inline(always)]
 fn uncovers(p: &Setup, king: Square, from: Square) -> bool
-    ensures { result ≡ false → Covers p.now king from }
+    requires squares { length p.now.board ≡ 64 }
+    ensures { OnFalse result (SlidesTo (put p.now.board from None) (other p.now.side) king → SlidesTo p.now.board (other p.now.side) king) }
 {
-    from == king || opens(&p.board, p.side.other(), from, king)
+    are_on_line(king, from) && slides_without(p, king, from)
+}
+
+// Whether an enemy slides to the king where nothing stands on this square.
+#[inline(always)]
+fn slides_without(p: &Setup, king: Square, from: Square) -> bool
+    requires squares { length p.now.board ≡ 64 }
+    ensures { IsTrue result ↔ SlidesTo (put p.now.board from None) (other p.now.side) king }
+{
+    let enemy = p.side.other();
+    let left = Left::of(&p.board, enemy).emptied(from);
+    slides_left(&p.board, left, enemy, king)
 }

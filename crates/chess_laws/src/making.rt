@@ -1,24 +1,24 @@
 //! Making a legal move, and whether it gives check.
 ghost use Rattle.std.specs.Prelude.{◌≡◌, ◌↔◌, ◌⊎◌, ◌&&◌, IsTrue, Some, is_none, true};
 ghost use Rattle.std.specs.Bool.{OnFalse, OnTrue};
-ghost use Rattle.cell_core.specs.Board.{man_at};
+ghost use Rattle.cell_core.specs.Board.{man_at, Men};
 ghost use Rattle.cell_core.specs.Man.{other};
-ghost use Rattle.chess_laws.specs.Attacks.{Attacks, IsInCheck};
 ghost use Rattle.chess_laws.specs.Counts.{counts_of, fewer};
 ghost use Rattle.chess_laws.specs.Keeps.{in_check};
 ghost use Rattle.chess_laws.specs.LegalTests.{is_calm, takes_target};
 ghost use Rattle.chess_laws.specs.Position.{Sound, king_square};
-ghost use Rattle.chess_laws.specs.Rays.{Hits, Opens};
+ghost use Rattle.chess_laws.specs.Rays.{Hits, LeapsAs, SlidesTo};
 ghost use Rattle.chess_laws.specs.Step.{after, effect_of, Legal};
 
-use super::attack::{attacks, opens};
-use super::cases::reaches;
+use super::attack::slides_left;
 use super::counts::Counts;
 use super::effect::Effect;
+use super::leaps::{is_capture_step, is_king_step, is_knight_step};
+use super::left::Left;
 use super::legal::is_calm;
 use super::next::{change, change_calm};
 use super::setup::Setup;
-use cell_core::{Board, Colour, Man, Move, Square};
+use cell_core::{Board, Colour, Kind, Man, Move, Square};
 
 /// Makes a legal move of what stands where it begins and keeps the ten counts, and answers whether the other side is in check
 /// then, whose king stands on this square.
@@ -42,11 +42,10 @@ pub fn make(
     ensures census { counts.new ≡ counts_of p.new.board }
 {
     let side = p.side;
-    let opened = may_open(p, m, effect, resting);
     let taken = p.board.at(m.to);
     let come = change_as(p, m, effect, standing);
     recount(counts, &p.board, &taken, takes_alone(m, effect));
-    gives_check(&p.board, side, &come, m.to, resting, opened)
+    gives_check(&p.board, side, &come, m.to, resting)
 }
 
 // Makes the move of what stands on its first square, and gives what stands on its target then.
@@ -96,39 +95,35 @@ fn recount(counts: &mut Counts, board: &Board, taken: &Option<Man>, alone: bool)
     }
 }
 
-// Whether the move may open a line from a man of the mover to the square.
+// Whether what has come to a square is a man of this colour that leaps to another, or one that slides reaches it.
 #[inline(always)]
-fn may_open(p: &Setup, m: &Move, effect: Effect, s: Square) -> bool
-    ensures { OnFalse result ((is_calm effect ≡ true) × (Opens p.now.board p.now.side m.now.from s → ⊥)) }
-{
-    !is_calm(effect) || opens(&p.board, p.side, m.from, s)
-}
-
-// Whether what has come to a square is a man of this colour that attacks another, or, where a line may have been opened, some
-// man does.
-#[inline(always)]
-fn gives_check(
-    board: &Board,
-    by: Colour,
-    come: &Option<Man>,
-    from: Square,
-    s: Square,
-    opened: bool,
-) -> bool
+fn gives_check(board: &Board, by: Colour, come: &Option<Man>, from: Square, s: Square) -> bool
     requires come { come.now ≡ man_at board.now from }
-    ensures { IsTrue result ↔ (Hits board.now by from s ⊎ ((opened ≡ true) × Attacks board.now by s)) }
+    ensures { IsTrue result ↔ (Hits board.now by from s ⊎ SlidesTo board.now by s) }
 {
-    hits(board, by, come, from, s) || (opened && attacks(board, by, s))
+    hits(by, come, from, s) || slides_left(board, Left::of(board, by), by, s)
 }
 
-// Whether what stands on one square is a man of this colour and reaches another.
+// Whether what stands on one square is a man of this colour and leaps to another.
 #[inline(always)]
-fn hits(board: &Board, by: Colour, standing: &Option<Man>, from: Square, s: Square) -> bool
-    requires standing { standing.now ≡ man_at board.now from }
-    ensures { IsTrue result ↔ Hits board.now by from s }
+fn hits(by: Colour, standing: &Option<Man>, from: Square, s: Square) -> bool
+    ensures { (men : Men) → standing.now ≡ man_at men from → IsTrue result ↔ Hits men by from s }
 {
     match standing {
-        Some(standing) => standing.colour == by && reaches(board, by, standing.kind, from, s),
+        Some(standing) => standing.colour == by && leaps_as(by, standing.kind, from, s),
         None => false,
+    }
+}
+
+// Whether a man of this kind leaps from one square to the other.
+#[inline(always)]
+fn leaps_as(colour: Colour, kind: Kind, from: Square, to: Square) -> bool
+    ensures { IsTrue result ↔ LeapsAs colour kind from to }
+{
+    match kind {
+        Kind::King => is_king_step(from, to),
+        Kind::Knight => is_knight_step(from, to),
+        Kind::Pawn => is_capture_step(colour, from, to),
+        Kind::Queen | Kind::Rook | Kind::Bishop => false,
     }
 }

@@ -1,5 +1,5 @@
 //! Positions that keep the rules, and the moves from them.
-ghost use Rattle.std.specs.Prelude.{◌≡◌, ◌↔◌, ℕ, ◌<◌, IsTrue, IsBitSet, IfOk, IfErr, Some};
+ghost use Rattle.std.specs.Prelude.{◌≡◌, ◌↔◌, ℕ, ◌<◌, true, IsTrue, IsBitSet, IfOk, IfErr, Some};
 ghost use Rattle.cell_core.specs.Board.{man_at};
 ghost use Rattle.cell_core.specs.Man.{man};
 ghost use Rattle.cell_core.specs.declared.man.Kind.TheVariants.{King};
@@ -13,7 +13,7 @@ use super::census::{home_set, only_king};
 use super::counts::Counts;
 use super::effect::Effect;
 use super::fault::PlaceFault;
-use super::legal::{is_legal, is_legal_as, is_legal_plain, king_after};
+use super::legal::{is_legal, is_legal_as, is_legal_calm, king_after};
 use super::making::make;
 use super::next::{effect_as, effect_of};
 use super::rules::{
@@ -246,7 +246,7 @@ fn place(
 impl Position {
     ghost use Rattle.chess_laws.specs.declared.setup.Setup.{Setup};
     ghost use Rattle.chess_laws.specs.LegalNow.{legal_now};
-    ghost use Rattle.chess_laws.specs.declared.effect.Effect.TheVariants.{Plain};
+    ghost use Rattle.chess_laws.specs.LegalTests.{is_calm};
     ghost use Rattle.chess_laws.specs.Step.{after, effect_of, is_capture, Legal, Step};
     ghost use Rattle.std.specs.Bool.{OnTrue, OnFalse};
 
@@ -308,31 +308,33 @@ impl Position {
         ensures kept { OnFalse result (self.new ≡ self.old) }
     {
         match effect {
-            Effect::Plain => self.advance_plain(kind, m),
-            Effect::Double => {
-                let standing = Man {
-                    colour: self.side(),
-                    kind,
-                };
-                self.advance_of(m, Effect::Double, Some(standing))
-            }
+            Effect::Plain => self.advance_calm(kind, m, Effect::Plain),
+            Effect::Double => self.advance_calm(kind, m, Effect::Double),
             Effect::Passing | Effect::Castle(_) | Effect::Null => self.advance_by(m, effect),
         }
     }
 
-    // `advance` of a plain move.
+    // `advance` of a plain move or a double step.
     #[inline(always)]
-    fn advance_plain(&mut self, kind: Kind, m: &Move) -> bool
+    fn advance_calm(&mut self, kind: Kind, m: &Move, effect: Effect) -> bool
         requires stands { man_at self.old.board m.now.from ≡ Some (man self.old.side kind) }
-        requires effect { Plain ≡ effect_of self.old m.now }
+        requires effect { effect ≡ effect_of self.old m.now }
+        requires calm { is_calm effect ≡ true }
         ensures legal { IsTrue result ↔ Legal self.old m.now }
         ensures step { OnTrue result (Step self.old m.now self.new) }
         ensures kept { OnFalse result (self.new ≡ self.old) }
     {
         let side = self.side();
-        let legal = is_legal_plain(self.setup(), self.king(side), self.in_check(), kind, m);
+        let legal = is_legal_calm(
+            self.setup(),
+            self.king(side),
+            self.in_check(),
+            kind,
+            m,
+            effect,
+        );
         if legal {
-            self.follow(m, Effect::Plain, Some(Man { colour: side, kind }));
+            self.follow(m, effect, Some(Man { colour: side, kind }));
         }
         legal
     }

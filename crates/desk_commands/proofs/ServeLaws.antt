@@ -17,6 +17,7 @@ use Rattle.shell_commands.specs.Tasks.{BrokenTask, SettledTask, order_left, task
 use Rattle.shell_state.proofs.CarryLaws.{settled_of}
 use Rattle.shell_state.proofs.Causing.{broken_by_output, output_of}
 use Rattle.shell_state.specs.Carrying.{Settled, StillCarry}
+use Rattle.shell_state.specs.Ends.{Unsaid}
 use Rattle.shell_state.specs.Stands.{Holding, Stands, WhyHalt}
 use Rattle.shell_state.specs.State.{State}
 use Rattle.shell_state.specs.declared.halt.Halt.{Halt}
@@ -109,6 +110,15 @@ pub ended_broken : {A : Type 0} (served : Result A Halt) (flushed : Result A Sto
 ended_broken (Err e) flushed w s t a b broken causes = broken
 ended_broken (Ok x) (Err stop) w s t a b broken causes = broken_by_output s (task_work w t) (halt.Device stop) (output_of stop a b causes.why)
 ended_broken (Ok x) (Ok y) w s t a b broken causes = tt
+
+pub ended_unsaid : {A : Type 0} (served : Result A Halt) (flushed : Result A Stop) (a b : ℕ) (first first' told told' : Option (List ℕ)) → Causes Why flushed (counts 0 0 a) (counts 0 0 b) → (first' ≡ first → told' ≡ told)
+    → IfErr served (λ (e : Halt). Unsaid e first first') → IfErr (ended served flushed) (λ (e : Halt). Unsaid e told told')
+ended_unsaid (Err e) flushed a b first first' told told' causes same unsaid = λ is. same (unsaid is)
+ended_unsaid (Ok x) (Ok y) a b first first' told told' causes same unsaid = tt
+ended_unsaid (Ok x) (Err stop.Files) a b first first' told told' causes same unsaid = absurd (none_rose causes.why)
+ended_unsaid (Ok x) (Err stop.Read) a b first first' told told' causes same unsaid = λ is. cc
+ended_unsaid (Ok x) (Err stop.Write) a b first first' told told' causes same unsaid = λ is. cc
+ended_unsaid (Ok x) (Err stop.Memory) a b first first' told told' causes same unsaid = λ is. cc
 
 pub ended_causes : {A : Type 0} (served : Result A Halt) (flushed : Result A Stop) (o : Opening) (told : Option (List ℕ)) (faults later : ℕ) (page : Waiting) (f f' b b' : ℕ) → Rendered o told faults page
     → Causes WhyHalt served (counts f b 0) (counts f' b' page.faults) → Causes Why flushed (counts 0 0 faults) (counts 0 0 later) → Causes WhyHalt (ended served flushed) (counts f b o.faults) (counts f' b' later)

@@ -9,9 +9,10 @@ ghost use Rattle.filter_seat.specs.Seats.{FitsGames};
 ghost use Rattle.script_lines.specs.Clients.{has_ended, heard, tagged_task};
 ghost use Rattle.script_text.specs.Sound.{IsSoundLine};
 ghost use Rattle.script_text.specs.Tasks.{task};
-ghost use Rattle.shell_commands.specs.Tasks.{BrokenTask, SettledTask, order_left, order_price, order_writes};
+ghost use Rattle.shell_commands.specs.Tasks.{BrokenTask, SettledTask, order_left, order_price, order_writes, writes_early};
 ghost use Rattle.shell_commands.specs.Watching.{watches};
 ghost use Rattle.shell_state.specs.Carrying.{StillCarry};
+ghost use Rattle.shell_state.specs.Ends.{Unsaid};
 ghost use Rattle.shell_state.specs.Slots.{slot_at};
 ghost use Rattle.shell_state.specs.Stands.{TablesFit, WhyHalt};
 ghost use Rattle.shell_state.specs.declared.halt.Halt.TheVariants as halt;
@@ -65,6 +66,9 @@ pub fn serve<F: Files, B: Source, K: Sink>(
     // Where it is broken off the files carry what they carried, or perhaps what `save` saves or `compact` leaves.
     ensures carries { (d : PlainDesk) (text : List ℕ) → DeskStands desk.old (F.seen files.old) d → B.left body.old ≡ Some text → AllRight (λ b. rows b) d views.old → IfErr result (λ _. StillCarry (F.seen files.new) (seen_by d 0) (line_left d line.now)) }
 
+    // Where the files fail nothing of its text was written, unless it writes while it works.
+    ensures unsaid { writes_early line.now.order ≡ false → IfErr result (λ e. Unsaid e (K.taken out.old) (K.taken out.new)) }
+
     // Where it is one that leaves a base in their place, nothing of its text was written before they carry that.
     ensures settled { (d : PlainDesk) (text : List ℕ) → DeskStands desk.old (F.seen files.old) d → B.left body.old ≡ Some text → AllRight (λ b. rows b) d views.old → IfErr result (λ _. SettledLine (F.seen files.new) d (tagged_task line.now text) (K.taken out.old) (K.taken out.new)) }
 
@@ -93,6 +97,7 @@ pub fn serve<F: Files, B: Source, K: Sink>(
 }
 
 // The same, before the clients hear the line.
+#[tactic(auto, using(shell_state::proofs::Causing::unsaid_without))]
 fn done<F: Files, B: Source, K: Sink>(
     alloc: Global,
     desk: &mut Desk,
@@ -116,6 +121,7 @@ fn done<F: Files, B: Source, K: Sink>(
     ensures choices { (F.seen files.new).choices ≡ (F.seen files.old).choices }
     ensures asks { (d : PlainDesk) → DeskStands desk.old (F.seen files.old) d → F.asked files.new ≤ F.asked files.old + line_price d line.now }
     ensures same { B.origin body.new ≡ B.origin body.old }
+    ensures unsaid { writes_early line.now.order ≡ false → IfErr result (λ e. Unsaid e (K.taken out.old) (K.taken out.new)) }
     ensures none_lost { NoneLost (K.taken out.old) (K.taken out.new) }
     ensures causes { Causes WhyHalt result (counts (F.faults files.old) (B.faults body.old) (K.faults out.old)) (counts (F.faults files.new) (B.faults body.new) (K.faults out.new)) }
     ensures clients { OnOk result (desk.new.clients ≡ desk.old.clients) }
@@ -127,6 +133,7 @@ fn done<F: Files, B: Source, K: Sink>(
 }
 
 // The same for the client who says it.
+#[tactic(auto, using(shell_state::proofs::Causing::unsaid_without))]
 fn done_by<F: Files, B: Source, K: Sink>(
     alloc: Global,
     desk: &mut Desk,
@@ -152,6 +159,7 @@ fn done_by<F: Files, B: Source, K: Sink>(
     ensures choices { (F.seen files.new).choices ≡ (F.seen files.old).choices }
     ensures asks { (d : PlainDesk) → DeskStands desk.old (F.seen files.old) d → F.asked files.new ≤ F.asked files.old + line_price d line.now }
     ensures same { B.origin body.new ≡ B.origin body.old }
+    ensures unsaid { writes_early line.now.order ≡ false → IfErr result (λ e. Unsaid e (K.taken out.old) (K.taken out.new)) }
     ensures none_lost { NoneLost (K.taken out.old) (K.taken out.new) }
     ensures causes { Causes WhyHalt result (counts (F.faults files.old) (B.faults body.old) (K.faults out.old)) (counts (F.faults files.new) (B.faults body.new) (K.faults out.new)) }
     ensures clients { OnOk result (desk.new.clients ≡ desk.old.clients) }
@@ -165,6 +173,7 @@ fn done_by<F: Files, B: Source, K: Sink>(
 }
 
 // Does what a line says for a client who has not ended, brings it to the others, and shows it to them.
+#[tactic(auto, using(shell_state::proofs::Causing::unsaid_memory))]
 fn serve_by<F: Files, B: Source, K: Sink>(
     alloc: Global,
     desk: &mut Desk,
@@ -194,6 +203,7 @@ fn serve_by<F: Files, B: Source, K: Sink>(
     ensures choices { (F.seen files.new).choices ≡ (F.seen files.old).choices }
     ensures asks { (d : PlainDesk) → DeskStands desk.old (F.seen files.old) d → F.asked files.new ≤ F.asked files.old + order_price (seen_by d client) order.now }
     ensures same { B.origin body.new ≡ B.origin body.old }
+    ensures unsaid { writes_early order.now ≡ false → IfErr result (λ e. Unsaid e (K.taken out.old) (K.taken out.new)) }
     ensures none_lost { NoneLost (K.taken out.old) (K.taken out.new) }
     ensures causes { Causes WhyHalt result (counts (F.faults files.old) (B.faults body.old) (K.faults out.old)) (counts (F.faults files.new) (B.faults body.new) (K.faults out.new)) }
     ensures clients { desk.new.clients ≡ desk.old.clients }

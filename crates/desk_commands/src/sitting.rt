@@ -6,9 +6,10 @@ ghost use Rattle.command_runs.specs.Endings.{Halted, NoneLost, Serves};
 ghost use Rattle.script_lines.specs.Clients.{has_ended};
 ghost use Rattle.script_text.specs.Sound.{IsSoundLine};
 ghost use Rattle.script_text.specs.Tasks.{task};
-ghost use Rattle.shell_commands.specs.Tasks.{BrokenTask, SettledTask, order_left, order_price, order_writes, tasks};
+ghost use Rattle.shell_commands.specs.Tasks.{BrokenTask, SettledTask, order_left, order_price, order_writes, tasks, writes_early};
 ghost use Rattle.shell_commands.specs.Watching.{ViewsDone, touches};
 ghost use Rattle.shell_state.specs.Carrying.{StillCarry};
+ghost use Rattle.shell_state.specs.Ends.{Unsaid};
 ghost use Rattle.shell_state.specs.Stands.{Sound, Stands, WhyHalt};
 ghost use Rattle.shell_state.specs.State.{State};
 ghost use Rattle.tagged_text.specs.Rendered.{Rendered, no_text, opening, said};
@@ -81,6 +82,7 @@ pub(crate) fn serve_seated<F: Files, B: Source, K: Sink>(
     ensures choices { (F.seen files.new).choices ≡ (F.seen files.old).choices }
     ensures asks { (d : PlainDesk) → DeskStands desk.old (F.seen files.old) d → F.asked files.new ≤ F.asked files.old + order_price (seen_by d client) order.now }
     ensures same { B.origin body.new ≡ B.origin body.old }
+    ensures unsaid { writes_early order.now ≡ false → IfErr result (λ e. Unsaid e (K.taken out.old) (K.taken out.new)) }
     ensures none_lost { NoneLost (K.taken out.old) (K.taken out.new) }
     ensures causes { Causes WhyHalt result (counts (F.faults files.old) (B.faults body.old) (K.faults out.old)) (counts (F.faults files.new) (B.faults body.new) (K.faults out.new)) }
     ensures clients { desk.new.clients ≡ desk.old.clients }
@@ -138,6 +140,7 @@ fn serve_client<F: Files, B: Source, K: Sink>(
     ensures choices { (F.seen files.new).choices ≡ (F.seen files.old).choices }
     ensures asks { (s : State) → Stands machine.old (F.seen files.old) s → F.asked files.new ≤ F.asked files.old + order_price s order.now }
     ensures same { B.origin body.new ≡ B.origin body.old }
+    ensures unsaid { writes_early order.now ≡ false → IfErr result (λ e. Unsaid e (K.taken out.old) (K.taken out.new)) }
     ensures none_lost { NoneLost (K.taken out.old) (K.taken out.new) }
     ensures causes { Causes WhyHalt result (counts (F.faults files.old) (B.faults body.old) (K.faults out.old)) (counts (F.faults files.new) (B.faults body.new) (K.faults out.new)) }
 {
@@ -182,6 +185,7 @@ fn serve_tagged<F: Files, B: Source, K: Sink>(
     ensures choices { (F.seen files.new).choices ≡ (F.seen files.old).choices }
     ensures asks { (s : State) → Stands machine.old (F.seen files.old) s → F.asked files.new ≤ F.asked files.old + order_price s order.now }
     ensures same { B.origin body.new ≡ B.origin body.old }
+    ensures unsaid { writes_early order.now ≡ false → IfErr result (λ e. Unsaid e (K.taken out.old) (K.taken out.new)) }
     ensures none_lost { NoneLost (K.taken out.old) (K.taken out.new) }
     ensures causes { Causes WhyHalt result (counts (F.faults files.old) (B.faults body.old) (K.faults out.old)) (counts (F.faults files.new) (B.faults body.new) (K.faults out.new)) }
 {
@@ -230,6 +234,7 @@ fn serve_behind<'o, 'p, 't, O: Opens, F: Files, B: Source, K: Sink>(
     ensures sound { OnOk result.1 (Sound machine.new (F.seen files.new)) }
     ensures carries { (s : State) → Stands machine.old (F.seen files.old) s → IfErr result.1 (λ _. StillCarry (F.seen files.new) s (order_left order.now)) }
     ensures settled { (s : State) (text : List ℕ) → Stands machine.old (F.seen files.old) s → B.left body.old ≡ Some text → IfErr result.1 (λ _. SettledTask (F.seen files.new) window s (task order.now text) (no_text O.opening.told) (said O.opening (K.taken result.0.out.now) result.0.page.now)) }
+    ensures unsaid { writes_early order.now ≡ false → IfErr result.1 (λ e. Unsaid e (no_text O.opening.told) (said O.opening (K.taken result.0.out.now) result.0.page.now)) }
     ensures unchanged { order_writes order.now ≡ false → F.seen files.new ≡ F.seen files.old }
     ensures choices { (F.seen files.new).choices ≡ (F.seen files.old).choices }
     ensures asks { (s : State) → Stands machine.old (F.seen files.old) s → F.asked files.new ≤ F.asked files.old + order_price s order.now }

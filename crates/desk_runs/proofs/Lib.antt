@@ -1,2 +1,4 @@
-pub mod SlotLaws
+pub mod FilterLaws
 pub mod IsolationLaws
+pub mod RefusalLaws
+pub mod SlotLaws

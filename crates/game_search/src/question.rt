@@ -3,7 +3,7 @@ ghost use Rattle.std.specs.Prelude.{◌≡◌, ◌≤◌, ℕ, List, Option, len
 ghost use Rattle.game_codec.specs.Record.{IsRecord, IsSomeRecord};
 ghost use Rattle.game_tree.specs.Game.{GameTree};
 ghost use Rattle.game_tree.specs.declared.head.Tag.{Tag};
-ghost use Rattle.sig_index.specs.Signature.{IsSigBounded};
+ghost use Rattle.sig_index.specs.Signature.{IsSig, IsSigBounded};
 ghost use Rattle.game_search.specs.Questions.{Unread};
 
 use game_codec::RecordFault;
@@ -25,9 +25,10 @@ pub trait Question {
         ensures reads { (unread : Unread) → tells self.old unread → is_none result ≡ unread.reads i sig.now }
         ensures known { (unread : Unread) → tells self.old unread → IfSome result (λ ply. ply ≡ unread.ply i) };
 
-    /// The first matching ply of the game of a record, if it has one; a fault comes only where the bytes are no record.
-    fn in_record(&self, record: &[u8]) -> Result<Option<u32>, RecordFault>
+    /// The first matching ply of the game of a record, if it has one and this is its signature; a fault comes only where the bytes are no
+    /// record.
+    fn in_record(&self, record: &[u8], sig: &Brief<'_>) -> Result<Option<u32>, RecordFault>
         requires short { length record.now ≤ 131071 }
-        ensures first { IfOk result (λ ply. (tags : List Tag) (game : GameTree) → IsRecord record.now tags game → ply ≡ first self.now game) }
+        ensures first { IfOk result (λ ply. (tags : List Tag) (game : GameTree) → IsRecord record.now tags game → IsSig game sig.now → ply ≡ first self.now game) }
         ensures fault { OnErr result (IsSomeRecord record.now → ⊥) };
 }

@@ -142,7 +142,7 @@ fn first_read<Q: Question, G: Games, F: Files>(
     ensures own { IfErr result (λ e. Names e i) }
 {
     let len = games.fetch(i, files, buf)?;
-    match q.in_record(buf.split_at(len as usize).0) {
+    match q.in_record(buf.split_at(len as usize).0, &games.brief(i)) {
         Ok(ply) => Ok(ply),
         Err(_) => Err(FetchError::Changed {
             game: i,

@@ -9,7 +9,7 @@ ghost use Rattle.pos_index.specs.Hits.{Fits, Indexes};
 ghost use Rattle.sig_index.specs.Games.{AreWithin, Holds};
 ghost use Rattle.index_commands.specs.Ends.{halt_of_build};
 ghost use Rattle.index_commands.specs.Indexing.{index_after, index_line, index_text, index_work};
-ghost use Rattle.shell_state.specs.Ends.{IsDevice};
+ghost use Rattle.shell_state.specs.Ends.{IsDevice, Unsaid};
 ghost use Rattle.shell_state.specs.Stands.{Asks, Broken, Sound, Stands, WhyHalt};
 ghost use Rattle.shell_state.specs.State.{State};
 ghost use Rattle.shell_state.specs.Work.{works};
@@ -34,6 +34,7 @@ pub fn index<F: Files, K: Sink>(
     ensures sound { OnOk result (Sound machine.new (F.seen files.new)) }
     ensures unchanged { F.seen files.new ≡ F.seen files.old }
     ensures asks { Asks machine.old (index_work depth) (F.asked files.old) (F.asked files.new) }
+    ensures unsaid { IfErr result (λ e. Unsaid e (K.taken out.old) (K.taken out.new)) }
     ensures none_lost { NoneLost (K.taken out.old) (K.taken out.new) }
     ensures causes { Causes WhyHalt result (counts (F.faults files.old) 0 (K.faults out.old)) (counts (F.faults files.new) 0 (K.faults out.new)) }
 {
@@ -44,6 +45,7 @@ pub fn index<F: Files, K: Sink>(
 }
 
 // Builds the index to this depth, and writes the line for it.
+#[tactic(auto, using(shell_state::proofs::Causing::unsaid_without))]
 fn index_to<F: Files, K: Sink>(
     alloc: Global,
     machine: &mut Machine,
@@ -57,6 +59,7 @@ fn index_to<F: Files, K: Sink>(
     ensures sound { OnOk result (Sound machine.new (F.seen files.new)) }
     ensures unchanged { F.seen files.new ≡ F.seen files.old }
     ensures asks { Asks machine.old (index_work (Some depth)) (F.asked files.old) (F.asked files.new) }
+    ensures unsaid { IfErr result (λ e. Unsaid e (K.taken out.old) (K.taken out.new)) }
     ensures none_lost { NoneLost (K.taken out.old) (K.taken out.new) }
     ensures causes { Causes WhyHalt result (counts (F.faults files.old) 0 (K.faults out.old)) (counts (F.faults files.new) 0 (K.faults out.new)) }
 {
@@ -67,9 +70,11 @@ fn index_to<F: Files, K: Sink>(
 }
 
 // Drops the index, if there is one, and says so.
+#[tactic(auto, using(shell_state::proofs::Causing::unsaid_without))]
 fn drop_index<K: Sink>(machine: &mut Machine, out: &mut K) -> Result<(), Halt>
     ensures serves { (seen : Seen) (s : State) → Stands machine.old seen s → Serves works (Stands machine.new seen) Broken s (index_work None) (K.taken out.old) (K.taken out.new) result }
     ensures sound { (seen : Seen) → Sound machine.old seen → OnOk result (Sound machine.new seen) }
+    ensures unsaid { IfErr result (λ e. Unsaid e (K.taken out.old) (K.taken out.new)) }
     ensures none_lost { NoneLost (K.taken out.old) (K.taken out.new) }
     ensures causes { Causes WhyHalt result (counts 0 0 (K.faults out.old)) (counts 0 0 (K.faults out.new)) }
 {

@@ -1,5 +1,5 @@
 -- What the devices leave, and why they fail.
-use Rattle.std.proofs.Common.{◌≡◌, ◌≤◌, ℕ, List, IfErr, OnOk, OnErr, Result, Ok, Err, refl, sym, ap, ◌∙◌, subst, inl, inr, arith}
+use Rattle.std.proofs.Common.{◌≡◌, ◌≤◌, ℕ, List, IfErr, IfOk, OnOk, OnErr, Result, Ok, Err, refl, sym, ap, ◌∙◌, subst, inl, inr, arith}
 use Rattle.base_files.specs.Counters.{Rose}
 use Rattle.base_files.specs.Seen.{FreshAlone, Seen, begun, lengthened}
 use Rattle.mend_base.specs.Devices.{IsNew, IsOld, IsReport}
@@ -115,3 +115,8 @@ on-ok-so P Q (Err e) f is = tt
 pub on-err-any : {A E : Type 0} (Q : Type 0) (r : Result A E) → Q → OnErr r Q
 on-err-any Q (Ok x) is = tt
 on-err-any Q (Err e) is = is
+
+-- What a call answers, by two facts of it.
+pub if-ok-so : {A E : Type 0} (P : Type 0) (Q R : A → Type 0) (r : Result A E) → ((x : A) → P → Q x → R x) → OnOk r P → IfOk r Q → IfOk r R
+if-ok-so P Q R (Ok x) f is at = f x is at
+if-ok-so P Q R (Err e) f is at = tt

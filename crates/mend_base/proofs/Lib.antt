@@ -1,7 +1,7 @@
 pub mod DeviceLaws
+pub mod EntryLaws
+pub mod NoteLaws
 pub mod PlaceLaws
 pub mod FindLaws
 pub mod MendLaws
-pub mod OneLaws
 pub mod WholeLaws
-pub mod ThereLaws

@@ -1,5 +1,5 @@
 -- The draft and the new games file after the first games, and one game more.
-use Rattle.std.proofs.Common.{◌≡◌, ◌≤◌, ◌<◌, ◌+◌, ◌-◌, ℕ, zero, suc, List, [], ◌∷◌, ◌++◌, length, Option, None, Some, Ok, Err, IfSome, refl, sym, ap, ◌∙◌, subst, arith, zero-add, suc-add}
+use Rattle.std.proofs.Common.{◌≡◌, ◌≤◌, ◌<◌, ◌+◌, ◌-◌, ℕ, zero, suc, max, List, [], ◌∷◌, ◌++◌, length, is_some, if◌then◌else◌, Option, None, Some, Result, Ok, Err, IfSome, refl, sym, ap, ◌∙◌, subst, arith, add-zero, zero-add, suc-add}
 use Rattle.std.proofs.lemmas.List.{length_push}
 use Rattle.std.proofs.lemmas.Option.{none-some}
 use Rattle.base_files.specs.Extents.{record_in}
@@ -7,7 +7,8 @@ use Rattle.base_files.specs.Seen.{FreshAlone, Seen, committed, told_instead}
 use Rattle.base_files.specs.Told.{Tells, adds, part_told}
 use Rattle.block_store.specs.Placing.{end_after, padded}
 use Rattle.game_tree.specs.declared.head.Head.{Head}
-use Rattle.index_entry.specs.Index.{header_read}
+use Rattle.index_entry.specs.Index.{entry_bytes}
+use Rattle.index_entry.specs.declared.fault.IndexFault.{IndexFault}
 use Rattle.index_entry.specs.declared.entry.Entry.{Entry}
 use Rattle.index_entry.specs.declared.index.IndexHead.{IndexHead}
 use Rattle.name_base.specs.NameLists.{NameLists}
@@ -25,16 +26,18 @@ use Rattle.base_core.specs.declared.fault.IdField.{IdField}
 use Rattle.base_core.specs.declared.fault.What.{What}
 use Rattle.base_core.proofs.OnlyLaws.{only-more, placed-long}
 use Rattle.base_core.proofs.TakeLaws.{names-settled}
+use Rattle.mend_base.specs.Entries.{entries_found, head_found}
 use Rattle.mend_base.specs.Finding.{KeepsWhole, entries_cost, entry_cost}
 use Rattle.mend_base.specs.Keeping.{FillsNext, MendsNext, PutsIt, WhyStopped}
-use Rattle.mend_base.specs.Mending.{BeganTelling, HasMended, IsMade, IsTooMuch, Mends, WhyNotMended}
-use Rattle.mend_base.specs.Notes.{with_notes}
-use Rattle.mend_base.specs.Places.{IsPlace, Place, games_of, mended_base, note_of, note_of_missing}
+use Rattle.mend_base.specs.Mending.{HasMended, IsMade, IsTooMuch, Mends, WhyNotMended}
+use Rattle.mend_base.specs.Notes.{Began, all_notes, notes_from, notes_of_head, notes_of_missing, notes_of_place, notes_of_rest, notes_with, with_notes}
+use Rattle.mend_base.specs.Places.{Found, games_of, mended_base, place_of, places_of}
 use Rattle.mend_base.specs.declared.fault.MendError.{MendError}
 use Rattle.mend_base.specs.declared.fault.MendError.TheVariants as error
 use Rattle.mend_base.specs.declared.mending.Mended.{Mended}
 use Rattle.mend_base.specs.declared.report.Note.{Note}
-use Rattle.mend_base.proofs.PlaceLaws.{games-more, games-same, no-more-notes, no-places, one-place-more, told-more}
+use Rattle.mend_base.proofs.NoteLaws.{all-told, began-behind, began-front, began-none, no-more-notes}
+use Rattle.mend_base.proofs.PlaceLaws.{began-so-far, changed-more, changed-same, games-more, games-same, told-more}
 
 -- ---- no games.
 
@@ -43,13 +46,12 @@ unfolding only
 none-stand header None = tt
 none-stand header (Some games) = (refl, record { header = refl; names = refl; end = refl; count = refl; each = λ i e held at_e at_held. absurd (none-some e at_e) })
 
-pub has-none : (header : IndexHead) (index : List ℕ) (names : PartLists) (games : List ℕ) (told : Option (List Note)) (seen : Option (List ℕ)) → HasMended 0 header index names games told told (begun header) (told_instead [] seen)
+has-none : (header : IndexHead) (index : List ℕ) (names : PartLists) (games : List ℕ) (told : Option (List Note)) (seen : Option (List ℕ)) → HasMended 0 header index names games told told 0 (begun header) (told_instead [] seen)
 unfolding only
 has-none header index names games told seen = record {
-  places = [];
-  are = no-places index names games;
   notes = sym (no-more-notes told);
   came = refl;
+  changed_are = refl;
   end = refl;
   names_are = refl;
   stands = none-stand header seen;
@@ -57,17 +59,15 @@ has-none header index names games told seen = record {
 
 -- ---- a game that is left out.
 
-pub has-left-out : (game : ℕ) (index : List ℕ) (names : PartLists) (games : List ℕ) (told now : Option (List Note)) (draft : Kept) (file : Option (List ℕ)) (fault : BaseFault) → IsPlace index names games game (Err fault) →
-    now ≡ with_notes told (note_of game (Err fault)) → MendsNext game index names games told now draft draft file file
-has-left-out game index names games told now draft file fault place tells = λ header before has.
-    let next : List Place = has.places ++ Err fault ∷ [] in
-    let same : games_of has.places ≡ games_of next = sym (games-same has.places fault) in
+has-left-out : (game : ℕ) (index : List ℕ) (names : PartLists) (games : List ℕ) (told now : Option (List Note)) (draft : Kept) (file : Option (List ℕ)) (fault : BaseFault) →
+    place_of names games game (entry_bytes index game) ≡ Err fault → now ≡ with_notes told (notes_of_place game (Err fault)) → MendsNext game index names games told now 0 draft draft file file
+has-left-out game index names games told now draft file fault place tells = λ header before changed has.
+    let same : games_of (places_of index names games game) ≡ games_of (places_of index names games (game + 1)) = sym (games-same index names games game fault place) in
     let S : List Held → Type 0 = λ gs. IfSome file (λ f. (length f ≡ draft.end) × Represents draft f (mended_base header gs)) in
     record {
-      places = next;
-      are = one-place-more index names games game has.places (Err fault) has.are place;
-      notes = told-more before told now game has.places (Err fault) has.are.long has.notes tells;
+      notes = told-more index names games before told now game (Err fault) place has.notes tells;
       came = has.came ∙ ap (λ (gs : List Held). length gs) same;
+      changed_are = add-zero changed ∙ (has.changed_are ∙ sym (changed-same index names games game fault place));
       end = has.end ∙ ap (λ (gs : List Held). (mended_base header gs).end) same;
       names_are = has.names_are ∙ ap (λ (gs : List Held). (mended_base header gs).names) same;
       stands = subst S same has.stands;
@@ -75,121 +75,117 @@ has-left-out game index names games told now draft file fault place tells = λ h
 
 -- ---- a game that comes over.
 
--- The base of the games so far with this one.
-with_held : (header : IndexHead) (places : List Place) (held : Held) (missing : Option IdField) → with_game held (mended_base header (games_of places)) ≡ mended_base header (games_of (places ++ Ok (record { held = held; missing = missing }) ∷ []))
-with_held header places held missing =
-    only-more (games_of places) held (record empty_base { header = header }) ∙ ap (λ (gs : List Held). mended_base header gs) (sym (games-more places (record { held = held; missing = missing })))
-
 names_kept : (names : NameLists) (games : List ℕ) (kept : Entry) (held : Held) (old : NameLists) → Keeps names games kept held → names_with (head_of names kept []) old ≡ names_with held.head old
 names_kept names games kept held old keeps = sym (names-settled names old kept keeps.says.tags) ∙ ap (λ (h : Head). names_with h old) (sym keeps.says.head)
 
--- Its names and its end.
-module _ (names : PartLists) (games : List ℕ) (header : IndexHead) (places : List Place) (draft : Kept) (kept : Entry) (held : Held) (missing : Option IdField)
-    (keeps : Keeps (filled_names names) games kept held) (end : draft.end ≡ (mended_base header (games_of places)).end) (are : draft.names ≡ (mended_base header (games_of places)).names) where
-  abbrev next : List Place
-  next = places ++ Ok (record { held = held; missing = missing }) ∷ []
+module _ (game : ℕ) (index : List ℕ) (names : PartLists) (games : List ℕ) (header : IndexHead) (kept : Entry) (missing : Option IdField) (whole : KeepsWhole index names games game kept missing) where
+  abbrev so_far : Base
+  so_far = mended_base header (games_of (places_of index names games game))
 
-  next_names : names_with (head_of (filled_names names) kept []) draft.names ≡ (mended_base header (games_of next)).names
-  next_names =
-      names_kept (filled_names names) games kept held draft.names keeps
-      ∙ (ap (λ (n : NameLists). names_with held.head n) are ∙ ap (λ (b : Base). b.names) (with_held header places held missing))
+  abbrev next : Base
+  next = mended_base header (games_of (places_of index names games (game + 1)))
 
-  next_end : end_after draft.end kept.len ≡ (mended_base header (games_of next)).end
-  next_end =
-      ap (λ (n : ℕ). end_after draft.end n) (sym keeps.says.len)
-      ∙ (ap (λ (n : ℕ). end_after n held.len) end ∙ ap (λ (b : Base). b.end) (with_held header places held missing))
+  -- The base of the games so far with this one.
+  with_held : with_game whole.held so_far ≡ next
+  with_held =
+      only-more (games_of (places_of index names games game)) whole.held (record empty_base { header = header })
+      ∙ ap (λ (gs : List Held). mended_base header gs) (sym (games-more index names games game (record { held = whole.held; missing = missing }) whole.place))
 
--- The new games file with its record.
-stands_next : (names : PartLists) (games : List ℕ) (header : IndexHead) (places : List Place) (draft after : Kept) (file fresh : Option (List ℕ)) (kept : Entry) (held : Held) (missing : Option IdField) → Keeps (filled_names names) games kept held →
-    Takes (filled_names names) kept draft after → after.end ≡ end_after draft.end kept.len → fresh ≡ adds file (padded draft.end (record_in games (extent_of kept))) →
-    IfSome file (λ f. (length f ≡ draft.end) × Represents draft f (mended_base header (games_of places))) →
-    IfSome fresh (λ f. (length f ≡ after.end) × Represents after f (mended_base header (games_of (places ++ Ok (record { held = held; missing = missing }) ∷ []))))
-stands_next names games header places draft after None fresh kept held missing keeps takes end is stands =
-    subst (λ (o : Option (List ℕ)). IfSome o (λ f. (length f ≡ after.end) × Represents after f (mended_base header (games_of (places ++ Ok (record { held = held; missing = missing }) ∷ []))))) (sym is) tt
-stands_next names games header places draft after (Some file) fresh kept held missing keeps takes end is stands =
-    let more = file ++ padded draft.end (record_in games (extent_of kept)) in
-    let G : Base → Type 0 = λ b. (length more ≡ after.end) × Represents after more b in
-    let done : G (with_game held (mended_base header (games_of places))) = (placed-long games file draft.end kept stands.0 keeps.says.within ∙ sym end, takes held games file (mended_base header (games_of places)) keeps stands.0 stands.1) in
-    subst (λ (o : Option (List ℕ)). IfSome o (λ f. (length f ≡ after.end) × Represents after f (mended_base header (games_of (places ++ Ok (record { held = held; missing = missing }) ∷ []))))) (sym is)
-    (subst G (with_held header places held missing) done)
+  -- Its names and its end.
+  pub next-names : (draft : Kept) → draft.names ≡ so_far.names → names_with (head_of (filled_names names) kept []) draft.names ≡ next.names
+  next-names draft are =
+      names_kept (filled_names names) games kept whole.held draft.names whole.keeps
+      ∙ (ap (λ (n : NameLists). names_with whole.held.head n) are ∙ ap (λ (b : Base). b.names) with_held)
 
-pub has-kept : (game : ℕ) (index : List ℕ) (names : PartLists) (games : List ℕ) (told now : Option (List Note)) (draft after : Kept) (file fresh : Option (List ℕ)) (kept : Entry) (missing : Option IdField) →
+  pub next-end : (draft : Kept) → draft.end ≡ so_far.end → end_after draft.end kept.len ≡ next.end
+  next-end draft end =
+      ap (λ (n : ℕ). end_after draft.end n) (sym whole.keeps.says.len)
+      ∙ (ap (λ (n : ℕ). end_after n whole.held.len) end ∙ ap (λ (b : Base). b.end) with_held)
+
+  -- The new games file with its record.
+  pub next-stands : (draft after : Kept) (file fresh : Option (List ℕ)) → Takes (filled_names names) kept draft after → after.end ≡ end_after draft.end kept.len →
+      fresh ≡ adds file (padded draft.end (record_in games (extent_of kept))) → IfSome file (λ f. (length f ≡ draft.end) × Represents draft f so_far) → IfSome fresh (λ f. (length f ≡ after.end) × Represents after f next)
+  next-stands draft after None fresh takes end is stands = subst (λ (o : Option (List ℕ)). IfSome o (λ f. (length f ≡ after.end) × Represents after f next)) (sym is) tt
+  next-stands draft after (Some file) fresh takes end is stands =
+      let more = file ++ padded draft.end (record_in games (extent_of kept)) in
+      let G : Base → Type 0 = λ b. (length more ≡ after.end) × Represents after more b in
+      let done : G (with_game whole.held so_far) = (placed-long games file draft.end kept stands.0 whole.keeps.says.within ∙ sym end, takes whole.held games file so_far whole.keeps stands.0 stands.1) in
+      subst (λ (o : Option (List ℕ)). IfSome o (λ f. (length f ≡ after.end) × Represents after f next)) (sym is) (subst G with_held done)
+
+has-kept : (game : ℕ) (index : List ℕ) (names : PartLists) (games : List ℕ) (told now : Option (List Note)) (more : ℕ) (draft after : Kept) (file fresh : Option (List ℕ)) (kept : Entry) (missing : Option IdField) →
     KeepsWhole index names games game kept missing → Takes (filled_names names) kept draft after → Grows kept.len draft after → after.names ≡ names_with (head_of (filled_names names) kept []) draft.names →
-    fresh ≡ adds file (padded draft.end (record_in games (extent_of kept))) → now ≡ with_notes told (note_of_missing game missing) → MendsNext game index names games told now draft after file fresh
-has-kept game index names games told now draft after file fresh kept missing whole takes grows names_are added tells = λ header before has.
-    let held = whole.held in
+    fresh ≡ adds file (padded draft.end (record_in games (extent_of kept))) → now ≡ with_notes told (notes_of_missing game missing) → more ≡ (if is_some missing then 1 else 0) →
+    MendsNext game index names games told now more draft after file fresh
+has-kept game index names games told now more draft after file fresh kept missing whole takes grows names_are added tells one = λ header before changed has.
+    let found : Found = record { held = whole.held; missing = missing } in
     record {
-      places = has.places ++ Ok (record { held = held; missing = missing }) ∷ [];
-      are = one-place-more index names games game has.places (Ok (record { held = held; missing = missing })) has.are whole.place;
-      notes = told-more before told now game has.places (Ok (record { held = held; missing = missing })) has.are.long has.notes tells;
-      came = grows.count ∙ (ap (λ n. n + 1) has.came ∙ (sym (length_push (games_of has.places) held) ∙ ap (λ (gs : List Held). length gs) (sym (games-more has.places (record { held = held; missing = missing })))));
-      end = grows.end ∙ next_end names games header has.places draft kept held missing whole.keeps has.end has.names_are;
-      names_are = names_are ∙ next_names names games header has.places draft kept held missing whole.keeps has.end has.names_are;
-      stands = stands_next names games header has.places draft after file fresh kept held missing whole.keeps takes grows.end added has.stands;
+      notes = told-more index names games before told now game (Ok found) whole.place has.notes tells;
+      came = grows.count ∙ (ap (λ n. n + 1) has.came ∙ (sym (length_push (games_of (places_of index names games game)) whole.held) ∙ ap (λ (gs : List Held). length gs) (sym (games-more index names games game found whole.place))));
+      changed_are = ap (λ n. changed + n) one ∙ (ap (λ n. n + (if is_some missing then 1 else 0)) has.changed_are ∙ sym (changed-more index names games game found whole.place));
+      end = grows.end ∙ next-end game index names games header kept missing whole draft has.end;
+      names_are = names_are ∙ next-names game index names games header kept missing whole draft has.names_are;
+      stands = next-stands game index names games header kept missing whole draft after file fresh takes grows.end added has.stands;
     }
 
 -- The new base would be full with it.
-pub has-filled : (game : ℕ) (index : List ℕ) (names : PartLists) (games : List ℕ) (told : Option (List Note)) (draft : Kept) (file : Option (List ℕ)) (kept : Entry) (missing : Option IdField) (what : What) →
+has-filled : (game : ℕ) (index : List ℕ) (names : PartLists) (games : List ℕ) (told : Option (List Note)) (draft : Kept) (file : Option (List ℕ)) (kept : Entry) (missing : Option IdField) (what : What) → game < entries_found index →
     KeepsWhole index names games game kept missing → or_file (full_names (names_with (head_of (filled_names names) kept []) draft.names)) (end_after draft.end kept.len) ≡ Some what → FillsNext game index names games told draft file what
-has-filled game index names games told draft file kept missing what whole full = λ header before has.
-    let held = whole.held in
+has-filled game index names games told draft file kept missing what below whole full = λ header before changed has.
     let N : NameLists → Type 0 = λ n. or_file (full_names n) (end_after draft.end kept.len) ≡ Some what in
-    let next : List Place = has.places ++ Ok (record { held = held; missing = missing }) ∷ [] in
-    let E : ℕ → Type 0 = λ n. or_file (full_names (mended_base header (games_of next)).names) n ≡ Some what in
+    let E : ℕ → Type 0 = λ n. or_file (full_names (mended_base header (games_of (places_of index names games (game + 1)))).names) n ≡ Some what in
     record {
       header = header;
       count = game + 1;
-      places = next;
-      are = one-place-more index names games game has.places (Ok (record { held = held; missing = missing })) has.are whole.place;
-      full = subst E (next_end names games header has.places draft kept held missing whole.keeps has.end has.names_are)
-          (subst N (next_names names games header has.places draft kept held missing whole.keeps has.end has.names_are) full);
+      few = omega (arith, below);
+      full = subst E (next-end game index names games header kept missing whole draft has.end) (subst N (next-names game index names games header kept missing whole draft has.names_are) full);
     }
 
 -- The same, where the games file may be told, and what was added is the record that was read.
-pub kept-told : (old : Option (List ℕ)) (game : ℕ) (index : List ℕ) (names : PartLists) (told now : Option (List Note)) (draft after : Kept) (file fresh : Option (List ℕ)) (kept : Entry) (missing : Option IdField) (bytes : List ℕ) →
+pub kept-told : (old : Option (List ℕ)) (game : ℕ) (index : List ℕ) (names : PartLists) (told now : Option (List Note)) (more : ℕ) (draft after : Kept) (file fresh : Option (List ℕ)) (kept : Entry) (missing : Option IdField) (bytes : List ℕ) →
     IfSome old (λ games. KeepsWhole index names games game kept missing) → Tells (part_told old kept.offset kept.len) bytes → Takes (filled_names names) kept draft after → Grows kept.len draft after →
-    after.names ≡ names_with (head_of (filled_names names) kept []) draft.names → fresh ≡ adds file (padded draft.end bytes) → now ≡ with_notes told (note_of_missing game missing) →
-    IfSome old (λ games. MendsNext game index names games told now draft after file fresh)
-kept-told None game index names told now draft after file fresh kept missing bytes whole read takes grows names_are added tells = tt
-kept-told (Some games) game index names told now draft after file fresh kept missing bytes whole read takes grows names_are added tells =
-    has-kept game index names games told now draft after file fresh kept missing whole takes grows names_are (added ∙ ap (λ (b : List ℕ). adds file (padded draft.end b)) read) tells
+    after.names ≡ names_with (head_of (filled_names names) kept []) draft.names → fresh ≡ adds file (padded draft.end bytes) → now ≡ with_notes told (notes_of_missing game missing) → more ≡ (if is_some missing then 1 else 0) →
+    IfSome old (λ games. MendsNext game index names games told now more draft after file fresh)
+kept-told None game index names told now more draft after file fresh kept missing bytes whole read takes grows names_are added tells one = tt
+kept-told (Some games) game index names told now more draft after file fresh kept missing bytes whole read takes grows names_are added tells one =
+    has-kept game index names games told now more draft after file fresh kept missing whole takes grows names_are (added ∙ ap (λ (b : List ℕ). adds file (padded draft.end b)) read) tells one
 
 pub left-out-told : (old : Option (List ℕ)) (game : ℕ) (index : List ℕ) (names : PartLists) (told now : Option (List Note)) (draft : Kept) (file : Option (List ℕ)) (fault : BaseFault) →
-    IfSome old (λ games. IsPlace index names games game (Err fault)) → now ≡ with_notes told (note_of game (Err fault)) → IfSome old (λ games. MendsNext game index names games told now draft draft file file)
+    IfSome old (λ games. place_of names games game (entry_bytes index game) ≡ Err fault) → now ≡ with_notes told (notes_of_place game (Err fault)) → IfSome old (λ games. MendsNext game index names games told now 0 draft draft file file)
 left-out-told None game index names told now draft file fault place tells = tt
 left-out-told (Some games) game index names told now draft file fault place tells = has-left-out game index names games told now draft file fault place tells
 
-pub filled-told : (old : Option (List ℕ)) (game : ℕ) (index : List ℕ) (names : PartLists) (told : Option (List Note)) (draft : Kept) (file : Option (List ℕ)) (kept : Entry) (missing : Option IdField) (what : What) →
+pub filled-told : (old : Option (List ℕ)) (game : ℕ) (index : List ℕ) (names : PartLists) (told : Option (List Note)) (draft : Kept) (file : Option (List ℕ)) (kept : Entry) (missing : Option IdField) (what : What) → game < entries_found index →
     IfSome old (λ games. KeepsWhole index names games game kept missing) → or_file (full_names (names_with (head_of (filled_names names) kept []) draft.names)) (end_after draft.end kept.len) ≡ Some what →
     IfSome old (λ games. FillsNext game index names games told draft file what)
-filled-told None game index names told draft file kept missing what whole full = tt
-filled-told (Some games) game index names told draft file kept missing what whole full = has-filled game index names games told draft file kept missing what whole full
+filled-told None game index names told draft file kept missing what below whole full = tt
+filled-told (Some games) game index names told draft file kept missing what below whole full = has-filled game index names games told draft file kept missing what below whole full
 
 -- ---- all games.
 
-pub none-told : (old : Option (List ℕ)) (header : IndexHead) (index : List ℕ) (names : PartLists) (told : Option (List Note)) (seen : Option (List ℕ)) → IfSome old (λ games. HasMended 0 header index names games told told (begun header) (told_instead [] seen))
+pub none-told : (old : Option (List ℕ)) (header : IndexHead) (index : List ℕ) (names : PartLists) (told : Option (List Note)) (seen : Option (List ℕ)) → IfSome old (λ games. HasMended 0 header index names games told told 0 (begun header) (told_instead [] seen))
 none-told None header index names told seen = tt
 none-told (Some games) header index names told seen = has-none header index names games told seen
 
-pub next-told : (old : Option (List ℕ)) (count : ℕ) (header : IndexHead) (index : List ℕ) (names : PartLists) (before told now : Option (List Note)) (draft after : Kept) (file fresh : Option (List ℕ)) →
-    IfSome old (λ games. HasMended count header index names games before told draft file) → IfSome old (λ games. MendsNext count index names games told now draft after file fresh) →
-    IfSome old (λ games. HasMended (count + 1) header index names games before now after fresh)
-next-told None count header index names before told now draft after file fresh has next = tt
-next-told (Some games) count header index names before told now draft after file fresh has next = next header before has
+pub next-told : (old : Option (List ℕ)) (count : ℕ) (header : IndexHead) (index : List ℕ) (names : PartLists) (before told now : Option (List Note)) (changed more : ℕ) (draft after : Kept) (file fresh : Option (List ℕ)) →
+    IfSome old (λ games. HasMended count header index names games before told changed draft file) → IfSome old (λ games. MendsNext count index names games told now more draft after file fresh) →
+    IfSome old (λ games. HasMended (count + 1) header index names games before now (changed + more) after fresh)
+next-told None count header index names before told now changed more draft after file fresh has next = tt
+next-told (Some games) count header index names before told now changed more draft after file fresh has next = next header before changed has
 
-pub began-told : (old : Option (List ℕ)) (count : ℕ) (header : IndexHead) (index : List ℕ) (names : PartLists) (before told now : Option (List Note)) (draft : Kept) (file : Option (List ℕ)) → now ≡ told →
-    IfSome old (λ games. HasMended count header index names games before told draft file) → IfSome old (λ games. BeganTelling index names games before now)
-began-told None count header index names before told now draft file same has = tt
-began-told (Some games) count header index names before told now draft file same has = record { count = count; places = has.places; are = has.are; notes = same ∙ has.notes }
+-- What was told of the first games begins what is told of all of them.
+pub began-told : (old : Option (List ℕ)) (n count : ℕ) (header : IndexHead) (index : List ℕ) (names : PartLists) (before told now : Option (List Note)) (changed : ℕ) (draft : Kept) (file : Option (List ℕ)) → now ≡ told → n ≤ count →
+    IfSome old (λ games. HasMended n header index names games before told changed draft file) → IfSome old (λ games. Began (notes_from 0 (places_of index names games count)) before now)
+began-told None n count header index names before told now changed draft file same few has = tt
+began-told (Some games) n count header index names before told now changed draft file same few has = began-so-far index names games n count before now few (same ∙ has.notes)
 
-pub began-none : (old : Option (List ℕ)) (index : List ℕ) (names : PartLists) (before now : Option (List Note)) → now ≡ before → IfSome old (λ games. BeganTelling index names games before now)
-began-none None index names before now same = tt
-began-none (Some games) index names before now same = record { count = 0; places = []; are = no-places index names games; notes = same ∙ sym (no-more-notes before) }
+pub began-here : (old : Option (List ℕ)) (count : ℕ) (index : List ℕ) (names : PartLists) (before now : Option (List Note)) → now ≡ before → IfSome old (λ games. Began (notes_from 0 (places_of index names games count)) before now)
+began-here None count index names before now same = tt
+began-here (Some games) count index names before now same = began-none (notes_from 0 (places_of index names games count)) before now same
 
-pub fills-told : (old : Option (List ℕ)) (count : ℕ) (header : IndexHead) (index : List ℕ) (names : PartLists) (before told : Option (List Note)) (draft : Kept) (file : Option (List ℕ)) (what : What) →
-    IfSome old (λ games. HasMended count header index names games before told draft file) → IfSome old (λ games. FillsNext count index names games told draft file what) → IfSome old (λ games. IsTooMuch index names games what)
-fills-told None count header index names before told draft file what has fills = tt
-fills-told (Some games) count header index names before told draft file what has fills = fills header before has
+pub fills-told : (old : Option (List ℕ)) (count : ℕ) (header : IndexHead) (index : List ℕ) (names : PartLists) (before told : Option (List Note)) (changed : ℕ) (draft : Kept) (file : Option (List ℕ)) (what : What) →
+    IfSome old (λ games. HasMended count header index names games before told changed draft file) → IfSome old (λ games. FillsNext count index names games told draft file what) → IfSome old (λ games. IsTooMuch index names games what)
+fills-told None count header index names before told changed draft file what has fills = tt
+fills-told (Some games) count header index names before told changed draft file what has fills = fills header before changed has
 
 -- What the games so far and one more cost.
 cost-more : (index : List ℕ) (a n : ℕ) → entries_cost index a ≤ entries_cost index (n + a)
@@ -223,22 +219,60 @@ means_so (Some i) (Some n) (Some g) fresh draft made same stands opens =
     let here = subst (λ (o : Option (List ℕ)). IfSome o (λ file. (length file ≡ draft.end) × Represents draft file made)) (sym same) stands in
     opens made here.0 here.1
 
-pub mends-so : (old : Option (List ℕ)) (index names : List ℕ) (parts : PartLists) (before after : Option (List Note)) (mid new : Seen) (header : IndexHead) (draft : Kept) (mended : Mended) → header_read index ≡ Ok header → parts ≡ names_in_part names →
-    mended.of ≡ header.games → mended.came ≡ length draft.entries → IfSome old (λ games. HasMended header.games header index parts games before after draft mid.fresh) → PutsIt draft mid new →
+pub mends-so : (old : Option (List ℕ)) (index : List ℕ) (names : PartLists) (before told now after : Option (List Note)) (changed : ℕ) (mid new : Seen) (header : IndexHead) (draft : Kept) (mended : Mended) → head_found index ≡ Ok header →
+    mended.of ≡ max header.games (entries_found index) → mended.came ≡ length draft.entries → mended.changed ≡ changed → told ≡ with_notes before (notes_of_head index header) →
+    IfSome old (λ games. HasMended (entries_found index) header index names games told now changed draft mid.fresh) → after ≡ with_notes now (notes_of_rest index header) → PutsIt draft mid new →
     IfSome old (λ games. Mends index names games before after new mended)
-mends-so None index names parts before after mid new header draft mended read same of came has puts = tt
-mends-so (Some games) index names parts before after mid new header draft mended read same of came is puts =
-    let has = subst (λ (p : PartLists). HasMended header.games header index p games before after draft mid.fresh) same is in
-    record {
-      header = header;
-      places = has.places;
-      read = read;
-      are = has.are;
-      of = of;
-      came = came ∙ has.came;
-      notes = has.notes;
-      means = means_so new.index new.names new.games mid.fresh draft (mended_base header (games_of has.places)) puts.games has.stands puts.opens;
-    }
+mends-so None index names before told now after changed mid new header draft mended read of came more first has rest puts = tt
+mends-so (Some games) index names before told now after changed mid new header draft mended read of came more first has rest puts = record {
+  header = header;
+  read = read;
+  of = of;
+  came = came ∙ has.came;
+  changed = more ∙ has.changed_are;
+  notes = rest
+      ∙ (ap (λ t. with_notes t (notes_of_rest index header)) (has.notes ∙ (ap (λ t. with_notes t (notes_from 0 (places_of index names games (entries_found index)))) first))
+      ∙ (all-told before (notes_of_head index header) (notes_from 0 (places_of index names games (entries_found index))) (notes_of_rest index header)
+      ∙ ap (λ (r : Result IndexHead IndexFault). with_notes before (notes_with r index names games)) (sym read)));
+  means = means_so new.index new.names new.games mid.fresh draft (mended_base header (games_of (places_of index names games (entries_found index)))) puts.games has.stands puts.opens;
+}
+
+-- ---- what was told where mending stopped.
+
+module _ (old : Option (List ℕ)) (index : List ℕ) (names : PartLists) (header : IndexHead) (read : head_found index ≡ Ok header) where
+  abbrev games_notes : List ℕ → List Note
+  games_notes games = notes_from 0 (places_of index names games (entries_found index))
+
+  all_are : (games : List ℕ) (before now : Option (List Note)) → Began (notes_of_head index header ++ (games_notes games ++ notes_of_rest index header)) before now → Began (all_notes index names games) before now
+  all_are games before now began = subst (λ (r : Result IndexHead IndexFault). Began (notes_with r index names games) before now) (sym read) began
+
+  pub began-head : (before now : Option (List Note)) → Began (notes_of_head index header) before now → IfSome old (λ games. Began (all_notes index names games) before now)
+  began-head before now began = by old
+    where
+      by : (o : Option (List ℕ)) → IfSome o (λ games. Began (all_notes index names games) before now)
+      by None = tt
+      by (Some games) = all_are games before now (began-front (notes_of_head index header) (games_notes games ++ notes_of_rest index header) before now began)
+
+  pub began-games : (before mid now : Option (List Note)) → mid ≡ with_notes before (notes_of_head index header) → IfSome old (λ games. Began (games_notes games) mid now) → IfSome old (λ games. Began (all_notes index names games) before now)
+  began-games before mid now first = by old
+    where
+      by : (o : Option (List ℕ)) → IfSome o (λ games. Began (games_notes games) mid now) → IfSome o (λ games. Began (all_notes index names games) before now)
+      by None began = tt
+      by (Some games) began =
+          all_are games before now
+          (began-behind (notes_of_head index header) (games_notes games ++ notes_of_rest index header) before mid now first (began-front (games_notes games) (notes_of_rest index header) mid now began))
+
+  pub began-rest : (before mid told now : Option (List Note)) (changed : ℕ) (draft : Kept) (file : Option (List ℕ)) → mid ≡ with_notes before (notes_of_head index header) →
+      IfSome old (λ games. HasMended (entries_found index) header index names games mid told changed draft file) → Began (notes_of_rest index header) told now → IfSome old (λ games. Began (all_notes index names games) before now)
+  began-rest before mid told now changed draft file first = by old
+    where
+      by : (o : Option (List ℕ)) → IfSome o (λ games. HasMended (entries_found index) header index names games mid told changed draft file) → Began (notes_of_rest index header) told now →
+          IfSome o (λ games. Began (all_notes index names games) before now)
+      by None has began = tt
+      by (Some games) has began =
+          all_are games before now
+          (began-behind (notes_of_head index header) (games_notes games ++ notes_of_rest index header) before mid now first
+          (began-behind (games_notes games) (notes_of_rest index header) mid told now has.notes began))
 
 -- ---- where the whole old base is told.
 
@@ -249,14 +283,14 @@ told-so P (Some i) (Some n) None index names at_i at_n is = tt
 told-so P (Some i) (Some n) (Some games) index names at_i at_n is = subst (λ (x : List ℕ). P x n games) at_i (subst (λ (y : List ℕ). P index y games) at_n is)
 
 -- Why no base is mended.
-pub why-so : (old : Option (List ℕ)) (index names : List ℕ) (parts : PartLists) (e : MendError) → parts ≡ names_in_part names → WhyStopped (λ what. IfSome old (λ games. IsTooMuch index parts games what)) e → IfSome old (λ games. WhyNotMended index names games e)
-why-so None index names parts e same why = tt
-why-so (Some games) index names parts (error.Bad fault) same why = absurd why
-why-so (Some games) index names parts (error.Full what) same why = subst (λ (p : PartLists). IsTooMuch index p games what) same why
-why-so (Some games) index names parts error.OldFailed same why = tt
-why-so (Some games) index names parts error.NewFailed same why = tt
-why-so (Some games) index names parts error.ReportFailed same why = tt
-why-so (Some games) index names parts error.Memory same why = tt
+pub why-so : (old : Option (List ℕ)) (index : List ℕ) (names : PartLists) (e : MendError) → WhyStopped (λ what. IfSome old (λ games. IsTooMuch index names games what)) e → IfSome old (λ games. WhyNotMended index names games e)
+why-so None index names e why = tt
+why-so (Some games) index names (error.Bad fault) why = absurd why
+why-so (Some games) index names (error.Full what) why = why
+why-so (Some games) index names error.OldFailed why = tt
+why-so (Some games) index names error.NewFailed why = tt
+why-so (Some games) index names error.ReportFailed why = tt
+why-so (Some games) index names error.Memory why = tt
 
 pub made-so : (old mid new : Seen) → FreshAlone old mid → IsMade mid new → IsMade old new
 made-so old mid new alone made = record {
@@ -267,7 +301,12 @@ made-so old mid new alone made = record {
   put = made.put;
 }
 
-pub began-unread : (i n g : Option (List ℕ)) (told : Option (List Note)) → IfSome i (λ index. IfSome n (λ names. IfSome g (λ games. BeganTelling index (names_in_part names) games told told)))
+pub began-unread : (i n g : Option (List ℕ)) (told : Option (List Note)) → IfSome i (λ index. IfSome n (λ names. IfSome g (λ games. Began (all_notes index (names_in_part names) games) told told)))
 began-unread None n g told = tt
 began-unread (Some i) None g told = tt
-began-unread (Some i) (Some n) g told = began-none g i (names_in_part n) told told refl
+began-unread (Some i) (Some n) None told = tt
+began-unread (Some i) (Some n) (Some g) told = began-none (all_notes i (names_in_part n) g) told told refl
+
+pub began-nothing : (old : Option (List ℕ)) (index : List ℕ) (names : PartLists) (told now : Option (List Note)) → now ≡ told → IfSome old (λ games. Began (all_notes index names games) told now)
+began-nothing None index names told now same = tt
+began-nothing (Some games) index names told now same = began-none (all_notes index names games) told now same

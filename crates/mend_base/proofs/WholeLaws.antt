@@ -1,29 +1,38 @@
 -- A base without a fault comes over whole.
-use Rattle.std.proofs.Common.{◌≡◌, ◌≤◌, ◌<◌, ◌+◌, ◌*◌, ℕ, Bool, false, true≢false, List, [], ◌∷◌, length, map, unwrap_or, option_map, Option, Some, None, Ok, Err, refl, sym, ap, ◌∙◌, subst, inl, inr, arith}
-use Rattle.std.proofs.lemmas.Bool.{lt-leb}
-use Rattle.std.proofs.lemmas.List.{length-map}
-use Rattle.std.proofs.lemmas.Option.{same_Some, slice_get-map, slice_get_within}
+use Rattle.std.proofs.Common.{◌≡◌, ◌≤◌, ◌<◌, ◌+◌, ◌-◌, ◌*◌, ℕ, zero, suc, Bool, false, true≢false, if◌then◌else◌, List, [], ◌∷◌, ◌++◌, length, map, take, slice_get, unwrap_or, Option, Some, None, Result, Ok, Err, refl, sym, ap, ap₂, ◌∙◌, inl, inr, arith, add-one, take_all}
+use Rattle.std.proofs.lemmas.Bool.{eq-eqb, le-ltb, lt-leb}
 use Rattle.game_tree.specs.Settle.{settled}
+use Rattle.game_tree.specs.declared.head.Head.{Head}
 use Rattle.game_tree.specs.declared.head.Tag.{Tag}
-use Rattle.index_entry.specs.Index.{entry_bytes}
+use Rattle.index_entry.specs.Index.{entry_bytes, header_read}
 use Rattle.index_entry.specs.declared.entry.Entry.{Entry}
+use Rattle.index_entry.specs.declared.fault.IndexFault.{IndexFault}
+use Rattle.index_entry.specs.declared.fault.IndexFault.TheVariants.{Length}
+use Rattle.index_entry.specs.declared.index.IndexHead.{IndexHead}
 use Rattle.index_entry.proofs.HeaderLemmas.{index-whole}
 use Rattle.name_base.specs.NameLists.{NameLists}
-use Rattle.name_base.specs.PartNames.{all_known, filled, filled_names, names_in_part}
+use Rattle.name_base.specs.PartNames.{PartLists, all_known, filled, filled_names, names_in_part}
 use Rattle.name_base.proofs.PartLemmas.{AreFew, all-filled, all-met, length-filled, read-whole}
 use Rattle.base_core.specs.Base.{Base, Held}
-use Rattle.base_core.specs.Entries.{HasNames, Says, head_of, name_at}
+use Rattle.base_core.specs.Entries.{HasNames, head_of, name_at}
 use Rattle.base_core.specs.FirstFault.{FirstFault, Passes, entry_checked, id_fault}
 use Rattle.base_core.specs.Means.{IsEntryOf, Means}
 use Rattle.base_core.specs.declared.fault.BaseFault.{BaseFault}
+use Rattle.base_core.specs.declared.fault.BaseFault.TheVariants.{Index}
 use Rattle.base_core.specs.declared.fault.IdField.{IdField}
 use Rattle.base_core.proofs.CheckLaws.{checked, has_names}
-use Rattle.base_core.proofs.Lists.{get_some, same_lists}
-use Rattle.base_core.proofs.OneBase.{says-one}
-use Rattle.base_core.proofs.OneFault.{passes_fails}
+use Rattle.base_core.proofs.Lists.{get_some, take_next}
 use Rattle.base_core.proofs.Results.{same_ok}
 use Rattle.base_core.proofs.SomeBase.{FaultOrBase}
-use Rattle.mend_base.specs.Places.{ArePlaces, ComesOver, IsPlace, Place, games_of, missing_in, notes_from}
+use Rattle.mend_base.specs.Entries.{entries_found}
+use Rattle.mend_base.specs.Mending.{ComesOver}
+use Rattle.mend_base.specs.Notes.{all_notes, notes_from, notes_of_count, notes_of_fault, notes_of_rest, notes_with}
+use Rattle.mend_base.specs.declared.report.Note.{Note}
+use Rattle.mend_base.specs.declared.report.Note.TheVariants as line
+use Rattle.mend_base.specs.Places.{Found, Place, games_of, held_by, missing_in, place_of, places_of}
+use Rattle.mend_base.proofs.EntryLaws.{found-all, header-few, header-found, header-read}
+use Rattle.mend_base.proofs.FindLaws.{held-by, read-place}
+use Rattle.mend_base.proofs.PlaceLaws.{games-first, games-more, notes-more}
 
 -- ---- names that are all there.
 
@@ -70,70 +79,85 @@ checked_filled names few end game bytes e has is =
     let k = checked names end game bytes e is in
     rw (k.read, ids_filled names few e has, k.placed) refl
 
-passes_filled : (names : NameLists) (few : AreFew names) (games : List ℕ) (game : ℕ) (bytes : List ℕ) → (p : Passes false names games game bytes) → HasNames names p.fields → Passes false (filled_names (all_known names)) games game bytes
-passes_filled names few games game bytes p has = record {
-  fields = p.fields;
-  checked = checked_filled names few (length games) game bytes p.fields has p.checked;
-  sig = p.sig;
-  signs = p.signs;
-  derived = p.derived;
-}
-
 -- ---- the places.
 
-abbrev whole : Held → Place
-whole held = Ok (record { held = held; missing = None })
+-- The place of a game of a base.
+place_whole : (names : NameLists) (games : List ℕ) (game : ℕ) (bytes : List ℕ) (held : Held) → AreFew names → IsEntryOf names games bytes held → Passes false names games game bytes →
+    place_of (all_known names) games game bytes ≡ Ok (record { held = held; missing = None })
+place_whole names games game bytes held few is passes =
+    let read = (checked names (length games) game bytes passes.fields passes.checked).read in
+    let fields : passes.fields ≡ is.fields = same_ok _ passes.fields is.fields read is.read in
+    let has = has_names names is.fields is.named in
+    let tags = is.says.tags in
+    let filled = checked_filled names few (length games) game bytes is.fields has (passes.checked ∙ ap Ok fields) in
+    let made : Head → Held = λ h. record { head = h; game = held.game; len = is.fields.len } in
+    let here : held_by (filled_names (all_known names)) is.fields (tags, held.game) ≡ held =
+    ap (λ (h : Head). made (settled h)) (head_same names few is.fields has tags) ∙ held-by names games is.fields held is.says in
+    let place : Held → Option IdField → Place = λ h m. Ok (record { held = h; missing = m }) in
+    read-place (all_known names) games game bytes is.fields tags held.game filled is.says.read
+    ∙ (ap (λ (h : Held). place h (missing_in (all_known names) is.fields)) here ∙ ap (λ (m : Option IdField). place held m) (none_missing names few is.fields has))
 
-place_whole : (index : List ℕ) (names : NameLists) (games : List ℕ) (game : ℕ) (held : Held) (place : Place) → AreFew names → 229 + 47 * game ≤ length index → IsEntryOf names games (entry_bytes index game) held →
-    Passes false names games game (entry_bytes index game) → IsPlace index (all_known names) games game place → place ≡ whole held
-place_whole index names games game held (Err fault) few there is passes (inl cut) = absurd (omega (arith, there, cut.short))
-place_whole index names games game held (Err fault) few there is passes (inr fails) =
-    let read = (checked names (length games) game (entry_bytes index game) passes.fields passes.checked).read in
-    let fields : is.fields ≡ passes.fields = same_ok _ is.fields passes.fields is.read read in
-    let has = subst (λ (e : Entry). HasNames names e) fields (has_names names is.fields is.named) in
-    absurd (passes_fails false (filled_names (all_known names)) games game (entry_bytes index game) fault (passes_filled names few games game (entry_bytes index game) passes has) fails.1)
-place_whole index names games game held (Ok found) few there is passes (left, right) =
-    let read = (checked (filled_names (all_known names)) (length games) game (entry_bytes index game) right.fields right.checked).read in
-    let fields : right.fields ≡ is.fields = same_ok _ right.fields is.fields read is.read in
-    let named = has_names names is.fields is.named in
-    let tags = right.says.tags in
-    let head : found.held.head ≡ settled (head_of names is.fields tags) =
-    right.says.head ∙ (ap (λ (e : Entry). settled (head_of (filled_names (all_known names)) e tags)) fields ∙ ap settled (head_same names few is.fields named tags)) in
-    let says_filled = subst (λ (e : Entry). Says (filled_names (all_known names)) games e found.held) fields right.says in
-    let says : Says names games is.fields found.held = record { tags = says_filled.tags; within = says_filled.within; read = says_filled.read; head = says_filled.head ∙ ap settled (head_same names few is.fields named says_filled.tags); len = says_filled.len } in
-    let same : found.held ≡ held = says-one names games is.fields found.held held says is.says in
-    let missing : found.missing ≡ None = right.missing ∙ (ap (missing_in (all_known names)) fields ∙ none_missing names few is.fields named) in
-    let made : Held → Option IdField → Place = λ h m. Ok (record { held = h; missing = m }) in
-    ap (λ (h : Held). made h found.missing) same ∙ ap (λ (m : Option IdField). made held m) missing
+module _ (index names games : List ℕ) (base : Base) (means : Means index names games base) (passes : (i : ℕ) → i < base.header.games → Passes false base.names games i (entry_bytes index i)) where
+  abbrev parts : PartLists
+  parts = names_in_part names
 
-games_whole : (helds : List Held) → games_of (map whole helds) ≡ helds
-games_whole [] = refl
-games_whole (held ∷ helds) = ap (λ hs. held ∷ hs) (games_whole helds)
+  place_at : (i : ℕ) → i < base.header.games → (held : Held) × ((slice_get base.games i ≡ Some held) × (place_of parts games i (entry_bytes index i) ≡ Ok (record { held = held; missing = None })))
+  place_at i below =
+      let read = read-whole names base.names means.lists in
+      let held = get_some base.games i (omega (arith, below, means.held.long)) in
+      let whole = place_whole base.names games i (entry_bytes index i) held.0 read.few (means.held.each i held.0 held.1) (passes i below) in
+      (held.0, (held.1, ap (λ (p : PartLists). place_of p games i (entry_bytes index i)) read.part ∙ whole))
 
-notes_whole : (game : ℕ) (helds : List Held) → notes_from game (map whole helds) ≡ []
-notes_whole game [] = refl
-notes_whole game (held ∷ helds) = notes_whole (game + 1) helds
+  games_whole : (n : ℕ) → n ≤ base.header.games → games_of (places_of index parts games n) ≡ take n base.games
+  games_whole zero few = refl
+  games_whole (suc n) few =
+      let here = place_at n (omega (arith, few)) in
+      let found : Found = record { held = here.0; missing = None } in
+      ap (λ m. games_of (places_of index parts games m)) (sym (add-one n))
+      ∙ (games-more index parts games n found here.1.1
+      ∙ (ap (λ gs. gs ++ here.0 ∷ []) (games_whole n (omega (arith, few)))
+      ∙ (sym (take_next base.games n here.0 here.1.0) ∙ ap (λ m. take m base.games) (add-one n))))
 
-places_whole : (index names games : List ℕ) (base : Base) (places : List Place) → Means index names games base → ((i : ℕ) → i < base.header.games → Passes false base.names games i (entry_bytes index i)) →
-    ArePlaces index (names_in_part names) games base.header.games places → places ≡ map whole base.games
-places_whole index names games base places means passes are =
-    let read = read-whole names base.names means.lists in
-    let long : length places ≡ length (map whole base.games) = are.long ∙ (sym means.held.long ∙ sym (length-map base.games whole)) in
-    let room = index-whole index base.header means.header in
-    same_lists places (map whole base.games) long (λ i p q at_p at_q.
-    let below : i < base.header.games = omega (arith, slice_get_within places i p at_p, are.long) in
-    let held = get_some base.games i (omega (arith, below, means.held.long)) in
-    let is : whole held.0 ≡ q = same_Some (whole held.0) q (sym (slice_get-map whole base.games i ∙ ap (option_map whole) held.1) ∙ at_q) in
-    let here = subst (λ n. IsPlace index n games i p) read.part (are.each i p at_p) in
-    place_whole index base.names games i held.0 p read.few (omega (arith, room, below)) (means.held.each i held.0 held.1) (passes i below) here ∙ is)
+  notes_whole : (n : ℕ) → n ≤ base.header.games → notes_from 0 (places_of index parts games n) ≡ []
+  notes_whole zero few = refl
+  notes_whole (suc n) few =
+      let here = place_at n (omega (arith, few)) in
+      ap (λ m. notes_from 0 (places_of index parts games m)) (sym (add-one n))
+      ∙ (notes-more index parts games n (Ok (record { held = here.0; missing = None })) here.1.1 ∙ ap (λ ns. ns ++ []) (notes_whole n (omega (arith, few))))
 
-pub games-over : (index names games : List ℕ) (base : Base) (places : List Place) → Means index names games base → ((i : ℕ) → i < base.header.games → Passes false base.names games i (entry_bytes index i)) →
-    ArePlaces index (names_in_part names) games base.header.games places → games_of places ≡ base.games
-games-over index names games base places means passes are = ap games_of (places_whole index names games base places means passes are) ∙ games_whole base.games
+  games_all : games_of (places_of index parts games base.header.games) ≡ base.games
+  games_all = games_whole base.header.games (omega arith) ∙ take_all base.header.games base.games (omega (arith, means.held.long))
 
-pub notes-over : (index names games : List ℕ) (base : Base) (places : List Place) → Means index names games base → ((i : ℕ) → i < base.header.games → Passes false base.names games i (entry_bytes index i)) →
-    ArePlaces index (names_in_part names) games base.header.games places → notes_from 0 places ≡ []
-notes-over index names games base places means passes are = ap (notes_from 0) (places_whole index names games base places means passes are) ∙ notes_whole 0 base.games
+  untold : notes_from 0 (places_of index parts games base.header.games) ≡ []
+  untold = notes_whole base.header.games (omega arith)
+
+  read : header_read index ≡ Ok base.header
+  read = header-read index base.header means.header
+
+  first : (others : List Held) × (games_of (places_of index parts games (entries_found index)) ≡ base.games ++ others)
+  first =
+      let there = found-all index base.header.games (header-few index base.header read) (index-whole index base.header means.header) in
+      let front = games-first index parts games base.header.games (entries_found index) there in
+      (front.0, front.1 ∙ ap (λ gs. gs ++ front.0) games_all)
+
+  silent : entries_found index ≡ base.header.games → all_notes index parts games ≡ []
+  silent same =
+      let fault : notes_of_fault (header_read index) ≡ [] = ap notes_of_fault read in
+      let none : List Note = [] in
+      let count : notes_of_count base.header.games (entries_found index) ≡ [] = ap (λ (b : Bool). if b then none else (line.Counted base.header.games (entries_found index) ∷ [])) (eq-eqb base.header.games (entries_found index) (sym same)) in
+      let games_are : notes_from 0 (places_of index parts games (entries_found index)) ≡ [] = ap (λ m. notes_from 0 (places_of index parts games m)) same ∙ untold in
+      let rest : notes_of_rest index base.header ≡ [] = ap (λ (b : Bool). if b then (line.NotThere (entries_found index) (base.header.games - 1) (Index (Length (length index))) ∷ []) else none) (le-ltb (entries_found index) base.header.games (omega (arith, same))) in
+      ap (λ (r : Result IndexHead IndexFault). notes_with r index parts games) (header-found index base.header read)
+      ∙ (ap₂ (λ a b. a ++ b) (ap₂ (λ a b. a ++ b) fault count) (ap₂ (λ a b. a ++ b) games_are rest))
+
+  pub over : ComesOver index names games base
+  over = record {
+    means = means;
+    first = first;
+    untold = untold;
+    alone = λ same. ap (λ m. games_of (places_of index parts games m)) same ∙ games_all;
+    silent = silent;
+  }
 
 passes_loosely : (strict : Bool) (names : NameLists) (games : List ℕ) (game : ℕ) (bytes : List ℕ) → Passes strict names games game bytes → Passes false names games game bytes
 passes_loosely strict names games game bytes p = record { fields = p.fields; checked = p.checked; sig = p.sig; signs = p.signs; derived = λ is. absurd (true≢false (sym is)) }
@@ -143,5 +167,4 @@ pub comes-over : (strict : Bool) (index names games : List ℕ) → FaultOrBase 
     (base : Base) × ComesOver index names games base
 comes-over strict index names games (inl f) none = absurd (none f.0 f.1)
 comes-over strict index names games (inr b) none =
-    let passes : (i : ℕ) → i < b.0.header.games → Passes false b.0.names games i (entry_bytes index i) = λ i less. passes_loosely strict b.0.names games i (entry_bytes index i) (b.1.1 i less) in
-    (b.0, record { means = b.1.0; all = λ places are. games-over index names games b.0 places b.1.0 passes are; untold = λ places are. notes-over index names games b.0 places b.1.0 passes are })
+    (b.0, over index names games b.0 b.1.0 (λ i less. passes_loosely strict b.0.names games i (entry_bytes index i) (b.1.1 i less)))

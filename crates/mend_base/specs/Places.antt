@@ -1,24 +1,27 @@
--- What is whole of three files that may be faulty: one place for each game, with the game or its first fault (this project's own, over Scid's
+-- What is whole of three files that may be faulty: one place for each entry, with the game or its first fault (this project's own, over Scid's
 -- format si4). A name that is missing is no fault that a game is left out for: it has `?` in its place.
-use Rattle.std.specs.Prelude.{◌≡◌, ◌≤◌, ◌<◌, ◌+◌, ◌*◌, ◌⊎◌, ℕ, false, not, if◌then◌else◌, List, [], ◌∷◌, ◌++◌, length, slice_get, Option, None, Some, is_some, Result, Ok, Err}
+use Rattle.std.specs.Prelude.{◌+◌, ℕ, zero, suc, not, if◌then◌else◌, List, [], ◌∷◌, ◌++◌, length, Option, None, Some, is_some, Result, Ok, Err}
+use Rattle.base_files.specs.Extents.{record_in}
+use Rattle.game_codec.specs.RecordAnswer.{record_answer}
+use Rattle.game_tree.specs.Game.{GameTree}
+use Rattle.game_tree.specs.Settle.{settled}
+use Rattle.game_tree.specs.declared.head.Tag.{Tag}
 use Rattle.index_entry.specs.Index.{entry_bytes}
 use Rattle.index_entry.specs.declared.entry.Entry.{Entry}
-use Rattle.index_entry.specs.declared.fault.IndexFault.TheVariants.{Length}
 use Rattle.index_entry.specs.declared.index.IndexHead.{IndexHead}
-use Rattle.name_base.specs.PartNames.{PartLists, filled_names, name_met, names_in_part}
+use Rattle.name_base.specs.NameLists.{NameLists}
+use Rattle.name_base.specs.PartNames.{PartLists, filled_names, name_met}
+use Rattle.name_base.specs.Reading.{◌>>=◌}
 use Rattle.base_core.specs.Base.{Base, Held, empty_base}
 use Rattle.base_core.specs.Compacted.{only}
-use Rattle.base_core.specs.Entries.{Says}
-use Rattle.base_core.specs.FirstFault.{Fails, entry_checked}
-use Rattle.base_core.specs.Means.{Means}
+use Rattle.base_core.specs.Entries.{extent_of, head_of}
+use Rattle.base_core.specs.FirstFault.{blamed, entry_checked}
 use Rattle.base_core.specs.declared.fault.BaseFault.{BaseFault}
-use Rattle.base_core.specs.declared.fault.BaseFault.TheVariants.{Id, Index}
+use Rattle.base_core.specs.declared.fault.BaseFault.TheVariants.{Packed}
 use Rattle.base_core.specs.declared.fault.IdField.{IdField}
 use Rattle.base_core.specs.declared.fault.IdField.TheVariants as id
-use Rattle.mend_base.specs.declared.report.Fate.TheVariants as fate
-use Rattle.mend_base.specs.declared.report.Note.{Note}
 
--- A game that is whole, and the first of its names that is missing.
+-- A game that comes over, and the first of its names that is missing.
 pub record Found : Type 0 where
   pub held : Held
   pub missing : Option IdField
@@ -37,33 +40,22 @@ missing_in names e =
     else if not (is_some (name_met names.rounds e.round)) then Some id.Round
     else None
 
--- The entry and the record of a game are whole: the entry has no fault and says this game, with `?` for each name that is missing.
-pub record IsWhole (names : PartLists) (games : List ℕ) (game : ℕ) (bytes : List ℕ) (found : Found) : Type 0 where
-  pub fields : Entry
-  pub checked : entry_checked (filled_names names) (length games) game bytes ≡ Ok fields
-  pub says : Says (filled_names names) games fields found.held
-  pub missing : found.missing ≡ missing_in names fields
+-- The game of an entry and of what its record says.
+abbrev pub held_by : NameLists → Entry → List Tag × GameTree → Held
+held_by names e read = record { head = settled (head_of names e read.0); game = read.1; len = e.len }
 
--- The index has the whole entry of a game.
-abbrev pub HasEntry : List ℕ → ℕ → Type 0
-HasEntry index game = 229 + 47 * game ≤ length index
+-- The place of a game with this entry: the first fault of its fields, of the place of its record, of its record; or the game, with `?` for each
+-- name that is missing.
+unfoldable pub place_of : PartLists → List ℕ → ℕ → List ℕ → Place
+place_of names games game bytes = do
+  e ← entry_checked (filled_names names) (length games) game bytes
+  read ← blamed (λ what. Packed game what) (record_answer (record_in games (extent_of e)))
+  Ok (record { held = held_by (filled_names names) e read; missing = missing_in names e })
 
--- The index ends before the end of the entry.
-pub record IsCut (index : List ℕ) (game : ℕ) (fault : BaseFault) : Type 0 where
-  pub short : length index < 229 + 47 * game
-  pub is : fault ≡ Index (Length (length index))
-
--- This is the place of a game of three files: it is whole, or this is its first fault. It has the first fault that opening finds at it where each
--- id has a name.
-abbrev pub IsPlace : List ℕ → PartLists → List ℕ → ℕ → Place → Type 0
-IsPlace index names games game (Ok found) = HasEntry index game × IsWhole names games game (entry_bytes index game) found
-IsPlace index names games game (Err fault) =
-    IsCut index game fault ⊎ (HasEntry index game × Fails false (filled_names names) games game (entry_bytes index game) fault)
-
--- These are the places of so many games, the first ones.
-pub record ArePlaces (index : List ℕ) (names : PartLists) (games : List ℕ) (count : ℕ) (places : List Place) : Type 0 where
-  pub long : length places ≡ count
-  pub each : (i : ℕ) (place : Place) → slice_get places i ≡ Some place → IsPlace index names games i place
+-- The places of so many games, the first ones.
+abbrev pub places_of : List ℕ → PartLists → List ℕ → ℕ → List Place
+places_of index names games zero = []
+places_of index names games (suc n) = places_of index names games n ++ place_of names games n (entry_bytes index n) ∷ []
 
 -- ---- what comes of the places.
 
@@ -73,26 +65,12 @@ games_of [] = []
 games_of (Ok found ∷ places) = found.held ∷ games_of places
 games_of (Err fault ∷ places) = games_of places
 
+-- How many of them are changed: those of which a name is missing.
+abbrev pub changed_of : List Place → ℕ
+changed_of [] = 0
+changed_of (Ok found ∷ places) = (if is_some found.missing then 1 else 0) + changed_of places
+changed_of (Err fault ∷ places) = changed_of places
+
 -- The new base: these games with their names, their records placed from the beginning of its games file.
 abbrev pub mended_base : IndexHead → List Held → Base
 mended_base header games = only games (record empty_base { header = header })
-
--- What is told of a game.
-abbrev pub note_of_missing : ℕ → Option IdField → List Note
-note_of_missing game None = []
-note_of_missing game (Some field) = record { game = game; fate = fate.Changed; fault = Id game field } ∷ []
-
-abbrev pub note_of : ℕ → Place → List Note
-note_of game (Ok found) = note_of_missing game found.missing
-note_of game (Err fault) = record { game = game; fate = fate.LeftOut; fault = fault } ∷ []
-
--- Of all games from this number on.
-abbrev pub notes_from : ℕ → List Place → List Note
-notes_from game [] = []
-notes_from game (place ∷ places) = note_of game place ++ notes_from (game + 1) places
-
--- Three files mean this base, and it comes over as it is: every game with its head, in order, and nothing is told.
-pub record ComesOver (index names games : List ℕ) (base : Base) : Type 0 where
-  pub means : Means index names games base
-  pub all : (places : List Place) → ArePlaces index (names_in_part names) games base.header.games places → games_of places ≡ base.games
-  pub untold : (places : List Place) → ArePlaces index (names_in_part names) games base.header.games places → notes_from 0 places ≡ []

@@ -1,17 +1,17 @@
 //! Looking for a game in files that may be faulty.
-ghost use Rattle.std.specs.Prelude.{◌≡◌, ◌≤◌, ◌<◌, ◌+◌, ◌*◌, ◌^◌, nat_lt, length, IfOk, OnErr, IfSome};
+ghost use Rattle.std.specs.Prelude.{◌≡◌, ◌≤◌, ◌<◌, ◌+◌, ◌*◌, ◌^◌, length, IfOk, OnErr, IfSome};
 ghost use Rattle.base_files.specs.Counters.{Rose};
 ghost use Rattle.base_files.specs.Told.{Tells, TellsLength, part_told};
 ghost use Rattle.index_entry.specs.Entry.{IsEntry, entry_in};
 ghost use Rattle.index_entry.specs.Index.{entry_bytes};
 ghost use Rattle.name_base.specs.PartNames.{filled_names};
 ghost use Rattle.base_core.specs.FirstFault.{entry_checked};
-ghost use Rattle.mend_base.specs.Finding.{Finds, IsFoundIn, IsKeepable, entry_cost};
-ghost use Rattle.mend_base.specs.Places.{HasEntry, missing_in};
+ghost use Rattle.mend_base.specs.Finding.{Finds, HasEntry, IsFoundIn, IsKeepable, entry_cost};
+ghost use Rattle.mend_base.specs.Places.{missing_in};
 
 use base_core::{BaseFault, IdField, mended_entry, misplaced};
 use base_files::{Failed, Files};
-use index_entry::{ENTRY_LEN, Entry, HEADER_LEN, IndexFault, entry_of, unpack};
+use index_entry::{Entry, entry_of, unpack};
 use name_base::{NameKind, PartNames};
 
 /// What was read of the old base before its records: the bytes of its index, its names as far as they go, and the end of its games file.
@@ -32,13 +32,14 @@ pub(crate) enum Find {
     Broken(BaseFault),
 }
 
-/// Looks for a game. Its record is read into `buf`.
+/// Looks for a game that has an entry. Its record is read into `buf`.
 pub(crate) fn find_game<F: Files>(
     source: &Source<'_>,
     game: u32,
     old: &mut F,
     buf: &mut [u8],
 ) -> Result<Find, Failed>
+    requires there { HasEntry source.now.index.now game }
     requires room { 131072 ≤ length buf.old }
     requires known { source.now.end ≤ (F.seen old.old).known }
     requires told { TellsLength (F.seen old.old).games source.now.end }
@@ -49,10 +50,6 @@ pub(crate) fn find_game<F: Files>(
     ensures counts { F.faults old.old ≤ F.faults old.new }
     ensures cause { OnErr result (Rose (F.faults old.old) (F.faults old.new)) }
 {
-    if is_cut(source, game) {
-        let cut = IndexFault::Length(source.index.len() as u64);
-        return Ok(Find::Broken(BaseFault::Index(cut)));
-    }
     let entry = match placed_entry(source, game) {
         Ok(entry) => entry,
         Err(fault) => return Ok(Find::Broken(fault)),
@@ -66,16 +63,9 @@ pub(crate) fn find_game<F: Files>(
     Ok(found_in(source, game, &entry, &buf[..entry.len as usize]))
 }
 
-/// Whether the index ends before the end of the entry of a game.
-pub(crate) fn is_cut(source: &Source<'_>, game: u32) -> bool
-    ensures cut { result ≡ nat_lt (length source.now.index.now) (229 + 47 * game) }
-{
-    source.index.len() < HEADER_LEN + ENTRY_LEN * (game as usize + 1)
-}
-
-/// What the entry of a game says, or its first fault before its record is read.
+// What the entry of a game says, or its first fault before its record is read.
 #[tactic(auto, unfolding(base_core::specs::FirstFault::entry_checked))]
-pub(crate) fn placed_entry(source: &Source<'_>, game: u32) -> Result<Entry, BaseFault>
+fn placed_entry(source: &Source<'_>, game: u32) -> Result<Entry, BaseFault>
     requires there { HasEntry source.now.index.now game }
     ensures exact { result ≡ entry_checked (filled_names source.now.names.now) source.now.end game (entry_bytes source.now.index.now game) }
     ensures fields { IfOk result IsEntry }
@@ -90,8 +80,8 @@ pub(crate) fn placed_entry(source: &Source<'_>, game: u32) -> Result<Entry, Base
     Ok(entry)
 }
 
-/// What the bytes of the record of a game say.
-pub(crate) fn found_in(source: &Source<'_>, game: u32, entry: &Entry, bytes: &[u8]) -> Find
+// What the bytes of the record of a game say.
+fn found_in(source: &Source<'_>, game: u32, entry: &Entry, bytes: &[u8]) -> Find
     requires fields { IsEntry entry.now }
     requires few { length bytes.now < 2 ^ 32 }
     ensures found { IsFoundIn source.now.names.now game entry.now bytes.now result }

@@ -1,5 +1,5 @@
 //! One game of the old base in the draft and the files of the new one.
-ghost use Rattle.std.specs.Prelude.{◌≡◌, ◌≤◌, ◌<◌, ◌+◌, [], Some, length, IfErr, IfSome, OnOk, OnErr};
+ghost use Rattle.std.specs.Prelude.{◌≡◌, ◌≤◌, ◌<◌, ◌+◌, [], Some, length, is_some, if◌then◌else◌, IfErr, IfOk, IfSome, OnOk, OnErr};
 ghost use Rattle.base_files.specs.Seen.{FreshAlone, lengthened};
 ghost use Rattle.base_files.specs.Told.{TellsLength};
 ghost use Rattle.block_store.specs.Placing.{end_after, padded};
@@ -9,16 +9,16 @@ ghost use Rattle.base_core.specs.Edited.{full_names, or_file};
 ghost use Rattle.base_core.specs.Edits.{names_with};
 ghost use Rattle.base_core.specs.Entries.{head_of};
 ghost use Rattle.mend_base.specs.Devices.{IsReport};
+ghost use Rattle.mend_base.specs.Entries.{entries_found};
 ghost use Rattle.mend_base.specs.Finding.{IsTakeable, entry_cost};
 ghost use Rattle.mend_base.specs.Keeping.{FillsNext, IsKeeping, MendsNext, WhyStopped};
 ghost use Rattle.mend_base.specs.Mending.{HasRisen};
-ghost use Rattle.mend_base.specs.Notes.{with_notes};
-ghost use Rattle.mend_base.specs.Places.{note_of_missing};
+ghost use Rattle.mend_base.specs.Notes.{notes_of_missing, with_notes};
 
 use crate::devices::{append, tell};
 use crate::fault::{MendError, not_taken_error};
 use crate::finding::{Find, Source, find_game};
-use crate::report::{Fate, Note, Report};
+use crate::report::{Note, Report};
 use base_core::{BaseFault, Draft, IdField};
 use base_files::Files;
 use index_entry::Entry;
@@ -26,7 +26,7 @@ use name_base::PartNames;
 use std::alloc::Global;
 
 /// Looks for a game, takes it into the draft and adds its record to the new games file if it is whole, and tells what becomes of it if it
-/// does not come over as it is.
+/// does not come over as it is. Gives how many games are changed: this one or none.
 pub(crate) fn mend_game<F: Files, N: Files, R: Report>(
     alloc: Global,
     source: &Source<'_>,
@@ -36,13 +36,15 @@ pub(crate) fn mend_game<F: Files, N: Files, R: Report>(
     new: &mut N,
     report: &mut R,
     buf: &mut [u8],
-) -> Result<(), MendError>
+) -> Result<u32, MendError>
+    requires there { game < entries_found source.now.index.now }
     requires room { 131072 ≤ length buf.old }
     requires known { source.now.end ≤ (F.seen old.old).known }
     requires told { TellsLength (F.seen old.old).games source.now.end }
     requires few { length draft.old.entries < 16777214 }
-    ensures mended { OnOk result (IfSome (F.seen old.old).games (λ games.
-        MendsNext game source.now.index.now source.now.names.now games (R.told report.old) (R.told report.new) draft.old draft.new (N.seen new.old).fresh (N.seen new.new).fresh)) }
+    ensures mended { IfOk result (λ changed. IfSome (F.seen old.old).games (λ games.
+        MendsNext game source.now.index.now source.now.names.now games (R.told report.old) (R.told report.new) changed draft.old draft.new (N.seen new.old).fresh (N.seen new.new).fresh)) }
+    ensures one { IfOk result (λ changed. changed ≤ 1) }
     ensures few { OnOk result (length draft.new.entries ≤ length draft.old.entries + 1) }
     ensures none_told { OnErr result (R.told report.new ≡ R.told report.old) }
     ensures why { IfErr result (WhyStopped (λ what. IfSome (F.seen old.old).games (λ games.
@@ -66,12 +68,10 @@ pub(crate) fn mend_game<F: Files, N: Files, R: Report>(
             tell_missing(report, game, missing)
         }
         Ok(Find::Broken(fault)) => {
-            let note = Note {
-                game,
-                fate: Fate::LeftOut,
-                fault,
-            };
-            tell(report, &note)
+            if let Err(error) = tell(report, &Note::LeftOut { game, fault }) {
+                return Err(error);
+            }
+            Ok(0)
         }
         Err(_) => Err(MendError::OldFailed),
     }
@@ -106,24 +106,27 @@ fn keep_game<N: Files>(
     append(new, pad, bytes)
 }
 
-// Tells the first name of a game that is missing, if there is one.
+// Tells the first name of a game that is missing, if there is one, and gives how many games that changes.
 fn tell_missing<R: Report>(
     report: &mut R,
     game: u32,
     missing: Option<IdField>,
-) -> Result<(), MendError>
-    ensures told { OnOk result (R.told report.new ≡ with_notes (R.told report.old) (note_of_missing game missing)) }
+) -> Result<u32, MendError>
+    ensures told { OnOk result (R.told report.new ≡ with_notes (R.told report.old) (notes_of_missing game missing)) }
+    ensures changed { IfOk result (λ changed. changed ≡ (if is_some missing then 1 else 0)) }
     ensures not_told { OnErr result (R.told report.new ≡ R.told report.old) }
     ensures counts { R.faults report.old ≤ R.faults report.new }
     ensures cause { IfErr result (IsReport (R.faults report.old) (R.faults report.new)) }
 {
     let Some(field) = missing else {
-        return Ok(());
+        return Ok(0);
     };
-    let note = Note {
+    let note = Note::Changed {
         game,
-        fate: Fate::Changed,
         fault: BaseFault::Id { game, field },
     };
-    tell(report, &note)
+    if let Err(error) = tell(report, &note) {
+        return Err(error);
+    }
+    Ok(1)
 }

@@ -4,14 +4,13 @@
 mod devices;
 mod fault;
 mod finding;
+mod heading;
 mod keeping;
 mod laws;
 mod mending;
 mod report;
 
 pub use fault::MendError;
-pub use laws::{
-    every_game_has_a_place, faultless_files_come_over_whole, one_place_each, sound_bases_come_over,
-};
+pub use laws::{faultless_files_come_over_whole, sound_bases_come_over};
 pub use mending::{Mended, mend};
-pub use report::{Fate, Note, Report};
+pub use report::{Note, Report};

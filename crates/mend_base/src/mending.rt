@@ -1,39 +1,45 @@
 //! Mending a base.
-ghost use Rattle.std.specs.Prelude.{◌≡◌, ◌≤◌, ◌+◌, length, IfOk, IfErr, IfSome, OnOk, OnErr};
+ghost use Rattle.std.specs.Prelude.{◌≡◌, ◌≤◌, ◌+◌, Ok, length, IfOk, IfErr, IfSome, OnOk, OnErr};
 ghost use Rattle.base_files.specs.Seen.{FreshAlone, measured};
 ghost use Rattle.base_files.specs.Told.{TellsLength};
 ghost use Rattle.index_entry.specs.Index.{IsIndexHead};
 ghost use Rattle.name_base.specs.PartNames.{names_in_part};
 ghost use Rattle.base_core.specs.Opening.{IfTold};
 ghost use Rattle.mend_base.specs.Devices.{IsNew};
+ghost use Rattle.mend_base.specs.Entries.{entries_found, head_found};
 ghost use Rattle.mend_base.specs.Finding.{entries_cost, mend_cost};
 ghost use Rattle.mend_base.specs.Keeping.{PutsIt, WhyStopped};
-ghost use Rattle.mend_base.specs.Mending.{BeganTelling, HasMended, HasRisen, IsMade, IsTooMuch, Mends, WhyNotMended};
+ghost use Rattle.mend_base.specs.Mending.{HasMended, HasRisen, IsMade, IsTooMuch, Mends, WhyNotMended};
+ghost use Rattle.mend_base.specs.Notes.{Began, all_notes, notes_from};
+ghost use Rattle.mend_base.specs.Places.{places_of};
 
 use crate::devices::{Loaded, begin, commit, load};
 use crate::fault::MendError;
 use crate::finding::Source;
+use crate::heading::{entries_found, find_header, tell_header, tell_rest};
 use crate::keeping::mend_game;
 use crate::report::Report;
 use base_core::Draft;
 use base_files::Files;
-use index_entry::{IndexHead, read_header};
+use index_entry::IndexHead;
 use name_base::read_part_names;
 use std::alloc::Global;
 
-/// How many games came over, of how many.
+/// How many games came over, how many of these are changed, and of how many: those that the index counts, or has where these are more.
 #[derive(Clone, Copy, Debug, Drop, PartialEq, Eq)]
 pub struct Mended {
     pub came: u32,
+    pub changed: u32,
     pub of: u32,
 }
 
 /// Makes new files of every game of the old ones whose entry and record are whole, in order, with its names as far as the names file goes
-/// and `?` for each that is missing, and tells of each game that is left out or changed. Each record is read once, into `buf`.
+/// and `?` for each that is missing, and tells of each game that is left out or changed. The games are those that have an entry, whatever
+/// the index counts. Each record is read once, into `buf`.
 ///
 /// # Errors
 ///
-/// `Bad` exactly where the header of the old index is faulty; `Full` where the new base would pass a limit; `OldFailed`, `NewFailed` and
+/// `Bad` exactly where no header of the old index is found; `Full` where the new base would pass a limit; `OldFailed`, `NewFailed` and
 /// `ReportFailed` where a device fails, and `Memory`. The current files of the new base are then as they were.
 pub fn mend<F: Files, N: Files, R: Report>(
     alloc: Global,
@@ -43,17 +49,17 @@ pub fn mend<F: Files, N: Files, R: Report>(
     buf: &mut [u8],
 ) -> Result<Mended, MendError>
     requires room { 131072 ≤ length buf.old }
-    // The new files mean the base of the whole games, in order, and each other game is told of with its first fault.
+    // The new files mean the base of the games that come over, in order, and all else is told of, each with its first fault.
     ensures mended { IfOk result (λ mended. IfTold (F.seen old.old) (λ index names games.
-        Mends index names games (R.told report.old) (R.told report.new) (N.seen new.new) mended)) }
-    ensures why { IfErr result (λ error. IfTold (F.seen old.old) (λ index names games. WhyNotMended index names games error)) }
+        Mends index (names_in_part names) games (R.told report.old) (R.told report.new) (N.seen new.new) mended)) }
+    ensures why { IfErr result (λ error. IfTold (F.seen old.old) (λ index names games. WhyNotMended index (names_in_part names) games error)) }
     // Whatever happens, the old files are as they were.
     ensures untouched { F.seen old.new ≡ measured (F.seen old.new).known (F.seen old.old) }
     // All three new files are made at once, or none.
     ensures made { OnOk result (IsMade (N.seen new.old) (N.seen new.new)) }
     ensures left { OnErr result (FreshAlone (N.seen new.old) (N.seen new.new)) }
     ensures began { OnErr result (IfTold (F.seen old.old) (λ index names games.
-        BeganTelling index (names_in_part names) games (R.told report.old) (R.told report.new))) }
+        Began (all_notes index (names_in_part names) games) (R.told report.old) (R.told report.new))) }
     // Each record is asked for once at most.
     ensures asks { IfSome (F.seen old.old).index (λ index. F.asked old.new ≤ F.asked old.old + mend_cost index) }
     ensures none_asked { N.asked new.new ≡ N.asked new.old }
@@ -83,12 +89,13 @@ fn mend_loaded<F: Files, N: Files, R: Report>(
     requires known { loaded.now.end ≡ (F.seen old.old).known }
     requires told { TellsLength (F.seen old.old).games loaded.now.end }
     ensures mended { IfOk result (λ mended. IfSome (F.seen old.old).games (λ games.
-        Mends loaded.now.index.items loaded.now.names.items games (R.told report.old) (R.told report.new) (N.seen new.new) mended)) }
-    ensures why { IfErr result (λ error. IfSome (F.seen old.old).games (λ games. WhyNotMended loaded.now.index.items loaded.now.names.items games error)) }
+        Mends loaded.now.index.items (names_in_part loaded.now.names.items) games (R.told report.old) (R.told report.new) (N.seen new.new) mended)) }
+    ensures why { IfErr result (λ error. IfSome (F.seen old.old).games (λ games.
+        WhyNotMended loaded.now.index.items (names_in_part loaded.now.names.items) games error)) }
     ensures made { OnOk result (IsMade (N.seen new.old) (N.seen new.new)) }
     ensures left { OnErr result (FreshAlone (N.seen new.old) (N.seen new.new)) }
     ensures began { OnErr result (IfSome (F.seen old.old).games (λ games.
-        BeganTelling loaded.now.index.items (names_in_part loaded.now.names.items) games (R.told report.old) (R.told report.new))) }
+        Began (all_notes loaded.now.index.items (names_in_part loaded.now.names.items) games) (R.told report.old) (R.told report.new))) }
     ensures unchanged { F.seen old.new ≡ F.seen old.old }
     ensures asks { F.asked old.new ≤ F.asked old.old + mend_cost loaded.now.index.items }
     ensures none_asked { N.asked new.new ≡ N.asked new.old }
@@ -98,7 +105,7 @@ fn mend_loaded<F: Files, N: Files, R: Report>(
     ensures cause { IfErr result (HasRisen (record { old = F.faults old.old; new = N.faults new.old; report = R.faults report.old })
         (record { old = F.faults old.new; new = N.faults new.new; report = R.faults report.new })) }
 {
-    let header = match read_header(loaded.index.as_slice()) {
+    let header = match find_header(loaded.index.as_slice()) {
         Ok(header) => header,
         Err(fault) => return Err(MendError::Bad(fault)),
     };
@@ -108,21 +115,63 @@ fn mend_loaded<F: Files, N: Files, R: Report>(
         names: &names,
         end: loaded.end,
     };
-    let draft = match mend_games(alloc, &source, &header, old, new, report, buf) {
-        Ok(draft) => draft,
+    mend_source(alloc, &source, &header, old, new, report, buf)
+}
+
+// Mends the base of this index with this header, and tells what is told of it.
+fn mend_source<F: Files, N: Files, R: Report>(
+    alloc: Global,
+    source: &Source<'_>,
+    header: &IndexHead,
+    old: &mut F,
+    new: &mut N,
+    report: &mut R,
+    buf: &mut [u8],
+) -> Result<Mended, MendError>
+    requires read { head_found source.now.index.now ≡ Ok header.now }
+    requires long { 182 ≤ length source.now.index.now }
+    requires header { IsIndexHead header.now }
+    requires room { 131072 ≤ length buf.old }
+    requires known { source.now.end ≤ (F.seen old.old).known }
+    requires told { TellsLength (F.seen old.old).games source.now.end }
+    ensures mended { IfOk result (λ mended. IfSome (F.seen old.old).games (λ games.
+        Mends source.now.index.now source.now.names.now games (R.told report.old) (R.told report.new) (N.seen new.new) mended)) }
+    ensures why { IfErr result (λ error. IfSome (F.seen old.old).games (λ games. WhyNotMended source.now.index.now source.now.names.now games error)) }
+    ensures made { OnOk result (IsMade (N.seen new.old) (N.seen new.new)) }
+    ensures left { OnErr result (FreshAlone (N.seen new.old) (N.seen new.new)) }
+    ensures began { OnErr result (IfSome (F.seen old.old).games (λ games.
+        Began (all_notes source.now.index.now source.now.names.now games) (R.told report.old) (R.told report.new))) }
+    ensures unchanged { F.seen old.new ≡ F.seen old.old }
+    ensures asks { F.asked old.new ≤ F.asked old.old + mend_cost source.now.index.now }
+    ensures none_asked { N.asked new.new ≡ N.asked new.old }
+    ensures old_counts { F.faults old.old ≤ F.faults old.new }
+    ensures new_counts { N.faults new.old ≤ N.faults new.new }
+    ensures report_counts { R.faults report.old ≤ R.faults report.new }
+    ensures cause { IfErr result (HasRisen (record { old = F.faults old.old; new = N.faults new.old; report = R.faults report.old })
+        (record { old = F.faults old.new; new = N.faults new.new; report = R.faults report.new })) }
+{
+    if let Err(error) = tell_header(report, source.index, header) {
+        return Err(error);
+    }
+    let (draft, changed) = match mend_games(alloc, source, header, old, new, report, buf) {
+        Ok(mended) => mended,
         Err(error) => return Err(error),
     };
+    if let Err(error) = tell_rest(report, source.index, header) {
+        return Err(error);
+    }
     let came = draft.len();
     if let Err(error) = put(alloc, &draft, new) {
         return Err(error);
     }
     Ok(Mended {
         came,
-        of: header.games,
+        changed,
+        of: header.games.max(entries_found(source.index)),
     })
 }
 
-// The draft of all games that are whole, whose records are added to the new games file.
+// The draft of all games that are whole, whose records are added to the new games file, and how many of them are changed.
 fn mend_games<F: Files, N: Files, R: Report>(
     alloc: Global,
     source: &Source<'_>,
@@ -131,19 +180,20 @@ fn mend_games<F: Files, N: Files, R: Report>(
     new: &mut N,
     report: &mut R,
     buf: &mut [u8],
-) -> Result<Draft, MendError>
+) -> Result<(Draft, u32), MendError>
+    requires long { 182 ≤ length source.now.index.now }
+    requires header { IsIndexHead header.now }
     requires room { 131072 ≤ length buf.old }
     requires known { source.now.end ≤ (F.seen old.old).known }
     requires told { TellsLength (F.seen old.old).games source.now.end }
-    requires header { IsIndexHead header.now }
-    ensures mended { IfOk result (λ draft. IfSome (F.seen old.old).games (λ games.
-        HasMended header.now.games header.now source.now.index.now source.now.names.now games (R.told report.old) (R.told report.new) draft (N.seen new.new).fresh)) }
+    ensures mended { IfOk result (λ mended. IfSome (F.seen old.old).games (λ games.
+        HasMended (entries_found source.now.index.now) header.now source.now.index.now source.now.names.now games (R.told report.old) (R.told report.new) mended.1 mended.0 (N.seen new.new).fresh)) }
     ensures began { OnErr result (IfSome (F.seen old.old).games (λ games.
-        BeganTelling source.now.index.now source.now.names.now games (R.told report.old) (R.told report.new))) }
+        Began (notes_from 0 (places_of source.now.index.now source.now.names.now games (entries_found source.now.index.now))) (R.told report.old) (R.told report.new))) }
     ensures why { IfErr result (WhyStopped (λ what. IfSome (F.seen old.old).games (λ games. IsTooMuch source.now.index.now source.now.names.now games what))) }
     ensures alone { FreshAlone (N.seen new.old) (N.seen new.new) }
     ensures unchanged { F.seen old.new ≡ F.seen old.old }
-    ensures asks { F.asked old.new ≤ F.asked old.old + entries_cost source.now.index.now header.now.games }
+    ensures asks { F.asked old.new ≤ F.asked old.old + mend_cost source.now.index.now }
     ensures none_asked { N.asked new.new ≡ N.asked new.old }
     ensures old_counts { F.faults old.old ≤ F.faults old.new }
     ensures new_counts { N.faults new.old ≤ N.faults new.new }
@@ -155,12 +205,14 @@ fn mend_games<F: Files, N: Files, R: Report>(
         return Err(error);
     }
     let mut draft = Draft::begin(alloc, header);
-    for game in 0..header.games {
-        if let Err(error) = mend_game(alloc, source, game, old, &mut draft, new, report, buf) {
-            return Err(error);
+    let mut changed = 0;
+    for game in 0..entries_found(source.index) {
+        match mend_game(alloc, source, game, old, &mut draft, new, report, buf) {
+            Ok(more) => changed += more,
+            Err(error) => return Err(error),
         }
     }
-    Ok(draft)
+    Ok((draft, changed))
 }
 
 // Makes the new games file and the names and the index of the draft the files of the new base.

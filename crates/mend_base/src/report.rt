@@ -1,4 +1,4 @@
-//! What is told of the games that do not come over as they are.
+//! What is told of a base that is mended.
 ghost use Rattle.std.specs.Prelude.{◌≡◌, ◌≤◌, ℕ, List, Option, IfErr, OnOk, OnErr};
 ghost use Rattle.base_files.specs.Causes.{HasCause};
 ghost use Rattle.mend_base.specs.Notes.{with_note};
@@ -6,37 +6,51 @@ ghost use Rattle.mend_base.specs.declared.report.Note.{Note as PlainNote};
 
 use base_core::BaseFault;
 use base_files::DeviceError;
+use index_entry::IndexFault;
 use std::fmt;
 
-/// What becomes of a game that has a fault.
-#[derive(Clone, Copy, Debug, Drop, PartialEq, Eq, Hash)]
-pub enum Fate {
-    /// It does not come over.
-    LeftOut,
-    /// It comes over with `?` for a name.
-    Changed,
-}
-
-impl fmt::Display for Fate {
-    fn fmt<W: fmt::Write>(&self, f: &mut fmt::Formatter<W>) -> fmt::Result {
-        f.write_str(match self {
-            Fate::LeftOut => "left out",
-            Fate::Changed => "changed",
-        })
-    }
-}
-
-/// A game of the old base that does not come over as it is: its number, what becomes of it, and the first fault for which that is.
+/// What is told of the old base, or of a game of it that does not come over as it is.
 #[derive(Clone, Copy, Debug, Drop, PartialEq, Eq)]
-pub struct Note {
-    pub game: u32,
-    pub fate: Fate,
-    pub fault: BaseFault,
+pub enum Note {
+    /// The header of the index has this fault. Its entries are mended all the same.
+    Tried(IndexFault),
+    /// The header counts so many games, and the index has so many whole entries.
+    Counted {
+        counted: u32,
+        found: u32,
+    },
+    /// This game does not come over. This is the first fault for which it does not.
+    LeftOut {
+        game: u32,
+        fault: BaseFault,
+    },
+    /// This game comes over with `?` for a name. This is the first one that is missing.
+    Changed {
+        game: u32,
+        fault: BaseFault,
+    },
+    /// The games from the first to the last of these do not come over: the index has no entries for them.
+    NotThere {
+        first: u32,
+        last: u32,
+        fault: BaseFault,
+    },
 }
 
 impl fmt::Display for Note {
     fn fmt<W: fmt::Write>(&self, f: &mut fmt::Formatter<W>) -> fmt::Result {
-        write!(f, "{} {}: {}", self.fate, self.game, self.fault)
+        match self {
+            Note::Tried(fault) => write!(f, "index file: {fault}; its entries are tried"),
+            Note::Counted { counted, found } => write!(f, "counted {counted}, found {found}"),
+            Note::LeftOut { game, fault } => write!(f, "left out {game}: {fault}"),
+            Note::Changed { game, fault } => write!(f, "changed {game}: {fault}"),
+            Note::NotThere { first, last, fault } if first == last => {
+                write!(f, "left out {first}: {fault}")
+            }
+            Note::NotThere { first, last, fault } => {
+                write!(f, "left out {first} to {last}: {fault}")
+            }
+        }
     }
 }
 

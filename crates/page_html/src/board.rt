@@ -2,7 +2,7 @@
 ghost use Rattle.std.specs.Prelude.{◌<◌};
 
 use crate::numbers::push_attribute;
-use cell_core::{Board, Colour, Kind, Man, Square};
+use cell_core::{Board, Colour, Kind, Man, Move, Square};
 use std::alloc::{AllocError, Global};
 
 /// The outlines of the men, and the squares of two by two, each 45 wide.
@@ -17,55 +17,130 @@ const DEFINITIONS: &[u8] = br##"<svg class="defs" width="0" height="0" aria-hidd
 </defs></svg>
 "##;
 
-/// Adds a board seen from both sides: that of this side stands in sight, and the other where it is asked for by `#turned`.
+/// The kinds in the order in which they are told.
+const KINDS: [Kind; 6] = [
+    Kind::King,
+    Kind::Queen,
+    Kind::Rook,
+    Kind::Bishop,
+    Kind::Knight,
+    Kind::Pawn,
+];
+
+/// Adds a board seen from both sides: that with this side below stands in sight, and the other where it is asked for by `#turned`.
 pub(crate) fn push_boards(
     out: &mut Vec<u8>,
     board: &Board,
-    side: Colour,
+    below: Colour,
+    last: &Option<Move>,
 ) -> Result<(), AllocError> {
     out.extend_from_slice(DEFINITIONS)?;
-    out.extend_from_slice(b"<div class=\"board\" id=\"turned\">\n")?;
-    push_board(out, board, side.other())?;
+    out.extend_from_slice(b"<div class=\"board facing\">\n")?;
+    push_board(out, board, below, last)?;
     out.extend_from_slice(
-        b"<p><a href=\"#\">turn the board back</a></p>\n</div>\n<div class=\"board\" id=\"facing\">\n",
+        b"<p><a class=\"turn\" href=\"#turned\">Turn the board</a></p>\n</div>\n<div class=\"board turned\">\n",
     )?;
-    push_board(out, board, side)?;
-    out.extend_from_slice(b"<p><a href=\"#turned\">turn the board</a></p>\n</div>\n")
+    push_board(out, board, below.other(), last)?;
+    out.extend_from_slice(
+        b"<p><a class=\"turn\" href=\"#facing\">Turn the board back</a></p>\n</div>\n",
+    )
 }
 
-// Adds a board seen from a side.
-fn push_board(out: &mut Vec<u8>, board: &Board, bottom: Colour) -> Result<(), AllocError> {
-    out.extend_from_slice(
-        b"<svg viewBox=\"0 0 360 360\" role=\"img\"><rect width=\"360\" height=\"360\" fill=\"url(#squares)\"/>",
-    )?;
-    out.extend_from_slice(letters(bottom))?;
+// Adds a board seen from a side, on which a move was made last.
+fn push_board(
+    out: &mut Vec<u8>,
+    board: &Board,
+    below: Colour,
+    last: &Option<Move>,
+) -> Result<(), AllocError> {
+    out.extend_from_slice(match below {
+        Colour::White => b"<svg data-below=\"w\"".as_slice(),
+        Colour::Black => b"<svg data-below=\"b\"".as_slice(),
+    })?;
+    out.extend_from_slice(b" viewBox=\"-16 0 376 376\" role=\"img\" aria-label=\"")?;
+    push_side(out, board, Colour::White, b"White")?;
+    out.extend_from_slice(b"; ")?;
+    push_side(out, board, Colour::Black, b"Black")?;
+    out.extend_from_slice(b"\"><rect width=\"360\" height=\"360\" fill=\"url(#squares)\"/>")?;
+    out.extend_from_slice(letters(below))?;
+    if let Some(mv) = last {
+        push_last(out, mv.from, below)?;
+        push_last(out, mv.to, below)?;
+    }
+    out.extend_from_slice(b"<g>")?;
     for s in 0..64u8 {
         if let Some(man) = board.at(Square::at(s)) {
-            push_man(out, man, seen_at(s, bottom))?;
+            push_man(out, man, seen_at(s, below))?;
         }
     }
-    out.extend_from_slice(b"</svg>\n")
+    out.extend_from_slice(b"</g></svg>\n")
+}
+
+// Adds the men of a side with their squares, by kinds.
+fn push_side(
+    out: &mut Vec<u8>,
+    board: &Board,
+    colour: Colour,
+    name: &[u8],
+) -> Result<(), AllocError> {
+    out.extend_from_slice(name)?;
+    for kind in KINDS {
+        push_kind(out, board, Man { colour, kind })?;
+    }
+    Ok(())
+}
+
+// Adds the squares of a kind of men, each with the letter of the kind before it, but for pawns.
+fn push_kind(out: &mut Vec<u8>, board: &Board, man: Man) -> Result<(), AllocError> {
+    for s in 0..64u8 {
+        if board.at(Square::at(s)) == Some(man) {
+            out.push(b' ')?;
+            if man.kind != Kind::Pawn {
+                out.extend_from_slice(outline(man.kind))?;
+            }
+            push_square(out, s)?;
+        }
+    }
+    Ok(())
+}
+
+/// Adds the name of a square.
+pub(crate) fn push_square(out: &mut Vec<u8>, s: u8) -> Result<(), AllocError>
+    requires square { s < 64 }
+{
+    out.push(b'a' + s % 8)?;
+    out.push(b'1' + s / 8)?;
+    Ok(())
+}
+
+// Marks a square of the last move.
+fn push_last(out: &mut Vec<u8>, square: Square, below: Colour) -> Result<(), AllocError> {
+    let (left, above) = seen_at(square.index(), below);
+    out.extend_from_slice(b"<rect class=\"last\" width=\"45\" height=\"45\"")?;
+    push_attribute(out, b"x", 45 * u128::from(left))?;
+    push_attribute(out, b"y", 45 * u128::from(above))?;
+    out.extend_from_slice(b"/>")
 }
 
 // The letters of the files and the digits of the ranks.
-fn letters(bottom: Colour) -> &'static [u8] {
-    match bottom {
+fn letters(below: Colour) -> &'static [u8] {
+    match below {
         Colour::White => {
-            b"<text x=\"36 81 126 171 216 261 306 351\" y=\"357\">abcdefgh</text><text x=\"2 2 2 2 2 2 2 2\" y=\"11 56 101 146 191 236 281 326\">87654321</text>"
+            b"<text x=\"22 67 112 157 202 247 292 337\" y=\"372\">abcdefgh</text><text x=\"-8 -8 -8 -8 -8 -8 -8 -8\" y=\"27 72 117 162 207 252 297 342\">87654321</text>"
         }
         Colour::Black => {
-            b"<text x=\"36 81 126 171 216 261 306 351\" y=\"357\">hgfedcba</text><text x=\"2 2 2 2 2 2 2 2\" y=\"11 56 101 146 191 236 281 326\">12345678</text>"
+            b"<text x=\"22 67 112 157 202 247 292 337\" y=\"372\">hgfedcba</text><text x=\"-8 -8 -8 -8 -8 -8 -8 -8\" y=\"27 72 117 162 207 252 297 342\">12345678</text>"
         }
     }
 }
 
 // Where a square stands: from the left and from above, in squares.
-fn seen_at(s: u8, bottom: Colour) -> (u8, u8)
+fn seen_at(s: u8, below: Colour) -> (u8, u8)
     requires square { s < 64 }
 {
     let file = s % 8;
     let rank = s / 8;
-    match bottom {
+    match below {
         Colour::White => (file, 7 - rank),
         Colour::Black => (7 - file, rank),
     }
@@ -79,9 +154,25 @@ fn push_man(out: &mut Vec<u8>, man: Man, (left, above): (u8, u8)) -> Result<(), 
         Colour::White => b"\" class=\"white\"".as_slice(),
         Colour::Black => b"\" class=\"black\"".as_slice(),
     })?;
-    push_attribute(out, b"x", 45 * u64::from(left))?;
-    push_attribute(out, b"y", 45 * u64::from(above))?;
+    push_attribute(out, b"x", 45 * u128::from(left))?;
+    push_attribute(out, b"y", 45 * u128::from(above))?;
     out.extend_from_slice(b"/>")
+}
+
+/// The letter of a man: a capital is White's, a small letter Black's.
+pub(crate) fn letter(man: Man) -> u8 {
+    let capital = match man.kind {
+        Kind::King => b'K',
+        Kind::Queen => b'Q',
+        Kind::Rook => b'R',
+        Kind::Bishop => b'B',
+        Kind::Knight => b'N',
+        Kind::Pawn => b'P',
+    };
+    match man.colour {
+        Colour::White => capital,
+        Colour::Black => capital.to_ascii_lowercase(),
+    }
 }
 
 // The name of the outline of a kind of men.

@@ -1,152 +1,203 @@
-//! The moves of a page as a table, made of the text of the tree of its position.
+//! The moves of a page as a table.
 use crate::frame::push_link;
-use crate::numbers::{push_attribute, push_number};
+use crate::numbers::{push_attribute, push_number, push_quotient, push_share};
+use cell_core::PackedBoard;
 use std::alloc::{AllocError, Global};
 use tree_rows::Row;
 
 /// The head of the table.
 const HEAD: &[u8] =
-    b"<div class=\"scroll\"><table class=\"moves\">\n<thead><tr><th>Move</th><th>Games</th><th class=\"results\">White won, drawn, Black won</th><th>Score</th><th>Rating</th><th>Other</th><th>Year</th></tr></thead>\n<tbody>\n";
+    b"<div class=\"scroll\" role=\"region\" aria-labelledby=\"moves\" tabindex=\"0\"><table class=\"moves\">\n<caption id=\"moves\">Moves</caption>\n<thead><tr><th scope=\"col\">Move</th><th scope=\"col\">Games</th><th scope=\"col\" class=\"share\">Share</th><th scope=\"col\" class=\"results\">White won, drawn, Black won</th><th scope=\"col\">Score</th><th scope=\"col\" class=\"rating\">Rating</th><th scope=\"col\" class=\"other\">Other</th><th scope=\"col\" class=\"year\">Year</th></tr></thead>\n";
+
+/// The numbers of a row of the table: those of a row of the tree, or their sums over rows.
+#[derive(Clone, Copy)]
+pub(crate) struct Sums {
+    pub(crate) games: u128,
+    white: u128,
+    draws: u128,
+    black: u128,
+    unfinished: u128,
+    mover: Sum,
+    other: Sum,
+    year: Sum,
+}
+
+// A sum, and of how many numbers it is.
+#[derive(Clone, Copy)]
+struct Sum {
+    sum: u128,
+    count: u128,
+}
+
+impl Sum {
+    // A sum with more numbers.
+    fn with(&self, sum: u64, count: u32) -> Sum {
+        Sum {
+            sum: self.sum.saturating_add(u128::from(sum)),
+            count: plus(self.count, count),
+        }
+    }
+}
+
+// The sum of no numbers, and the sums over no rows.
+const NOTHING: Sum = Sum { sum: 0, count: 0 };
+
+const NONE: Sums = Sums {
+    games: 0,
+    white: 0,
+    draws: 0,
+    black: 0,
+    unfinished: 0,
+    mover: NOTHING,
+    other: NOTHING,
+    year: NOTHING,
+};
+
+impl Sums {
+    /// The sums over rows.
+    pub(crate) fn of(rows: &[Row]) -> Sums {
+        let mut sums = NONE;
+        for row in rows {
+            sums = sums.with(row);
+        }
+        sums
+    }
+
+    /// The numbers of one row.
+    pub(crate) fn one(row: &Row) -> Sums {
+        NONE.with(row)
+    }
+
+    // The sums with one row more.
+    fn with(&self, row: &Row) -> Sums {
+        Sums {
+            games: plus(self.games, row.games),
+            white: plus(self.white, row.white),
+            draws: plus(self.draws, row.draws),
+            black: plus(self.black, row.black),
+            unfinished: plus(self.unfinished, row.unfinished),
+            mover: self.mover.with(row.mover_sum, row.mover_rated),
+            other: self.other.with(row.other_sum, row.other_rated),
+            year: self.year.with(row.year_sum, row.dated),
+        }
+    }
+
+    // How many games ended.
+    fn ended(&self) -> u128 {
+        self.white
+            .saturating_add(self.draws)
+            .saturating_add(self.black)
+    }
+}
+
+// A sum with a number more: those of rows that fit into memory are far below the greatest.
+fn plus(sum: u128, number: u32) -> u128 {
+    sum.saturating_add(u128::from(number))
+}
 
 /// Adds what stands before the rows.
 pub(crate) fn push_moves_head(out: &mut Vec<u8>) -> Result<(), AllocError> {
     out.extend_from_slice(HEAD)
 }
 
-/// Adds a row: what the tree says of a move, with a link to the page at the place that it leads to, if to one.
-pub(crate) fn push_line(
+/// Adds a row of this name, of so many games in all, with a link to the page of the position that its move leads to, if that has one.
+pub(crate) fn push_row(
     out: &mut Vec<u8>,
-    words: &[u8],
-    row: &Row,
-    to: Option<usize>,
+    name: &[u8],
+    sums: &Sums,
+    whole: u128,
+    to: Option<PackedBoard>,
 ) -> Result<(), AllocError> {
-    out.extend_from_slice(b"<tr><td>")?;
-    let (name, rest) = next_word(words);
-    match to {
-        Some(place) => {
-            push_link(out, place)?;
-            out.extend_from_slice(name)?;
-            out.extend_from_slice(b"</a>")?;
-        }
-        None => out.extend_from_slice(name)?,
-    }
-    push_columns(out, rest, [row.white, row.draws, row.black])
+    out.extend_from_slice(b"<tr><th scope=\"row\">")?;
+    push_name(out, name, to)?;
+    out.extend_from_slice(b"</th>")?;
+    push_columns(out, sums, whole)
+}
+
+// Adds the name of a row, with a link.
+fn push_name(out: &mut Vec<u8>, name: &[u8], to: Option<PackedBoard>) -> Result<(), AllocError> {
+    let Some(packed) = to else {
+        return out.extend_from_slice(name);
+    };
+    push_link(out, &packed)?;
+    out.extend_from_slice(name)?;
+    out.extend_from_slice(b"</a>")
 }
 
 /// Adds the row of the sums of all rows, and what stands behind it.
-pub(crate) fn push_total(out: &mut Vec<u8>, words: &[u8], rows: &[Row]) -> Result<(), AllocError> {
-    out.extend_from_slice(b"</tbody>\n<tfoot>\n<tr><td>Total")?;
-    let mut parts = [0u32; 3];
-    for row in rows {
-        parts[0] = parts[0].saturating_add(row.white);
-        parts[1] = parts[1].saturating_add(row.draws);
-        parts[2] = parts[2].saturating_add(row.black);
-    }
-    push_columns(out, next_word(words).1, parts)?;
+pub(crate) fn push_total(out: &mut Vec<u8>, total: &Sums) -> Result<(), AllocError> {
+    out.extend_from_slice(b"<tfoot>\n<tr><th scope=\"row\">Total</th>")?;
+    push_columns(out, total, total.games)?;
     out.extend_from_slice(b"</tfoot>\n</table></div>\n")
 }
 
-// Adds the numbers of a row, which stand behind its name in the text of the tree, with the games that were won, drawn and lost.
-fn push_columns(out: &mut Vec<u8>, words: &[u8], parts: [u32; 3]) -> Result<(), AllocError> {
-    let (games, rest) = next_word(words);
-    out.extend_from_slice(b"</td><td>")?;
-    out.extend_from_slice(games)?;
+// Adds the numbers of a row, of so many games in all.
+fn push_columns(out: &mut Vec<u8>, n: &Sums, whole: u128) -> Result<(), AllocError> {
+    out.extend_from_slice(b"<td>")?;
+    push_number(out, n.games)?;
+    out.extend_from_slice(b"</td><td class=\"share\">")?;
+    push_share(out, n.games, whole)?;
     out.extend_from_slice(b"</td><td class=\"results\">")?;
-    push_bar(out, parts)?;
-    let rest = push_results(out, rest)?;
-    let (score, rest) = next_word(rest);
-    push_score(out, score)?;
-    push_averages(out, rest)
+    push_bar(out, n)?;
+    push_results(out, n)?;
+    out.extend_from_slice(b"</td>")?;
+    push_averages(out, n)
 }
 
-// Adds the bar of the games that were won, drawn and lost.
-fn push_bar(out: &mut Vec<u8>, parts: [u32; 3]) -> Result<(), AllocError> {
-    let [won, drawn, lost] = parts;
-    let ended = won.saturating_add(drawn).saturating_add(lost);
-    if ended == 0 {
+// Adds the score and the averages.
+fn push_averages(out: &mut Vec<u8>, n: &Sums) -> Result<(), AllocError> {
+    let points = n.white.saturating_add(n.white).saturating_add(n.draws);
+    out.extend_from_slice(b"<td>")?;
+    push_share(out, points, n.ended().saturating_mul(2))?;
+    out.extend_from_slice(b"</td><td class=\"rating\">")?;
+    push_quotient(out, n.mover.sum, n.mover.count)?;
+    out.extend_from_slice(b"</td><td class=\"other\">")?;
+    push_quotient(out, n.other.sum, n.other.count)?;
+    out.extend_from_slice(b"</td><td class=\"year\">")?;
+    push_quotient(out, n.year.sum, n.year.count)?;
+    out.extend_from_slice(b"</td></tr>\n")
+}
+
+// Adds the bar of the games that White won, that were drawn and that Black won.
+fn push_bar(out: &mut Vec<u8>, n: &Sums) -> Result<(), AllocError> {
+    if n.ended() == 0 {
         return Ok(());
     }
-    out.extend_from_slice(b"<svg preserveAspectRatio=\"none\" viewBox=\"0 0 ")?;
-    push_number(out, u64::from(ended))?;
+    out.extend_from_slice(
+        b"<svg aria-hidden=\"true\" preserveAspectRatio=\"none\" viewBox=\"0 0 ",
+    )?;
+    push_number(out, n.ended())?;
     out.extend_from_slice(b" 1\">")?;
-    push_part(out, b"won", 0, won)?;
-    push_part(out, b"drawn", won, drawn)?;
-    push_part(out, b"lost", won.saturating_add(drawn), lost)?;
+    push_part(out, b"won", 0, n.white)?;
+    push_part(out, b"drawn", n.white, n.draws)?;
+    push_part(out, b"lost", n.white.saturating_add(n.draws), n.black)?;
     out.extend_from_slice(b"</svg>")
 }
 
 // Adds a part of a bar.
-fn push_part(out: &mut Vec<u8>, class: &[u8], from: u32, width: u32) -> Result<(), AllocError> {
+fn push_part(out: &mut Vec<u8>, class: &[u8], from: u128, width: u128) -> Result<(), AllocError> {
     if width == 0 {
         return Ok(());
     }
     out.extend_from_slice(b"<rect class=\"")?;
     out.extend_from_slice(class)?;
     out.extend_from_slice(b"\" height=\"1\"")?;
-    push_attribute(out, b"x", u64::from(from))?;
-    push_attribute(out, b"width", u64::from(width))?;
+    push_attribute(out, b"x", from)?;
+    push_attribute(out, b"width", width)?;
     out.extend_from_slice(b"/>")
 }
 
-// Adds how many games were won, drawn and lost, and how many have no result, and gives the words behind them.
-fn push_results<'a>(out: &mut Vec<u8>, words: &'a [u8]) -> Result<&'a [u8], AllocError> {
-    let (won, rest) = next_word(words);
-    let (drawn, rest) = next_word(rest);
-    let (lost, rest) = next_word(rest);
-    let (unfinished, rest) = next_word(rest);
+// Adds how many games White won, how many were drawn, how many Black won, and how many have no result.
+fn push_results(out: &mut Vec<u8>, n: &Sums) -> Result<(), AllocError> {
     out.extend_from_slice(b"<small>+")?;
-    out.extend_from_slice(won)?;
+    push_number(out, n.white)?;
     out.extend_from_slice(b" =")?;
-    out.extend_from_slice(drawn)?;
+    push_number(out, n.draws)?;
     out.extend_from_slice(b" -")?;
-    out.extend_from_slice(lost)?;
-    if unfinished != b"0".as_slice() {
+    push_number(out, n.black)?;
+    if n.unfinished > 0 {
         out.extend_from_slice(b" *")?;
-        out.extend_from_slice(unfinished)?;
+        push_number(out, n.unfinished)?;
     }
-    out.extend_from_slice(b"</small>")?;
-    Ok(rest)
-}
-
-// Adds a score, which is told in thousandths, in hundredths, with one digit behind the point.
-fn push_score(out: &mut Vec<u8>, score: &[u8]) -> Result<(), AllocError> {
-    out.extend_from_slice(b"</td><td>")?;
-    if score == b"-".as_slice() {
-        return out.extend_from_slice(score);
-    }
-    let (whole, tenth) = score.split_at(score.len().saturating_sub(1));
-    if whole.is_empty() {
-        out.extend_from_slice(b"0")?;
-    }
-    out.extend_from_slice(whole)?;
-    out.extend_from_slice(b".")?;
-    out.extend_from_slice(tenth)?;
-    out.extend_from_slice(b"%")
-}
-
-// Adds the averages of the ratings and of the years.
-fn push_averages(out: &mut Vec<u8>, words: &[u8]) -> Result<(), AllocError> {
-    let mut rest = words;
-    for _column in 0..3 {
-        let (average, behind) = next_word(rest);
-        out.extend_from_slice(b"</td><td>")?;
-        out.extend_from_slice(average)?;
-        rest = behind;
-    }
-    out.extend_from_slice(b"</td></tr>\n")
-}
-
-/// The first word of a line of a tree's text, and what stands behind it.
-pub(crate) fn next_word(line: &[u8]) -> (&[u8], &[u8]) {
-    let blanks = line.iter().take_while(|byte| **byte == b' ').count();
-    let (_, rest) = line.split_at(blanks.min(line.len()));
-    let len = rest.iter().take_while(|byte| **byte != b' ').count();
-    rest.split_at(len.min(rest.len()))
-}
-
-/// The first line of a text, and what stands behind its line feed.
-pub(crate) fn next_line(text: &[u8]) -> (&[u8], &[u8]) {
-    let len = text.iter().take_while(|byte| **byte != b'\n').count();
-    let (line, rest) = text.split_at(len.min(text.len()));
-    (line, rest.split_at(rest.len().min(1)).1)
+    out.extend_from_slice(b"</small>")
 }

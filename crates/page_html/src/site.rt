@@ -1,22 +1,30 @@
 //! The pages of a book, one after the other.
 ghost use Rattle.std.specs.Prelude.{◌<◌, length};
+ghost use Rattle.game_tree.specs.Head.{IsBounded};
+ghost use Rattle.game_tree.specs.Legal.{IsLegalGame};
 
 use crate::board::push_boards;
-use crate::frame::{push_head, push_link, push_others_link};
+use crate::cutting::{next_line, next_word};
+use crate::frame::{push_head, push_link, push_title_end};
+use crate::game::push_game_page;
 use crate::games::push_games;
-use crate::moves::{next_line, next_word, push_line, push_moves_head, push_total};
+use crate::moves::{Sums, push_moves_head, push_row, push_total};
+use crate::openings::Openings;
+use crate::place::Place;
 use crate::text::push_text;
-use crate::way::{push_moves_to, push_way};
-use arrayvec::ArrayVec;
+use crate::way::{Step, first_steps, push_line, push_way, short, way_to};
 use book_pages::{Book, Order};
-use cell_core::{Colour, unpack};
+use cell_core::{Colour, Move, PackedBoard, unpack};
+use chess_laws::Position;
+use chess_text::write_fen;
+use game_tree::{Game, Head};
 use sig_index::Games;
 use std::alloc::{AllocError, Global};
-use tree_rows::lines;
+use tree_rows::{Row, lines};
 
 /// What stands before the links to the pages that no page leads to.
 const OTHERS: &[u8] =
-    b"<header>\n<p class=\"way\"><a href=\"index.html\">Start</a></p>\n</header>\n<h1>Positions that no other page leads to</h1>\n<p>Enough games reach each of them, but too few by any one move.</p>\n<ul>\n";
+    b"<header>\n<nav class=\"way\" aria-label=\"Moves\"><a href=\"index.html\">Start</a></nav>\n</header>\n<h1>Positions that no other page leads to</h1>\n<p>Enough games reach each of them, but too few by any one move.</p>\n<ul>\n";
 
 /// The pages of a book that are made, in their order, with what is known of those that were made.
 #[derive(Drop)]
@@ -25,30 +33,38 @@ pub struct Site<'a> {
     name: &'a [u8],
     book: &'a Book,
     order: &'a Order,
+    openings: &'a Openings<'a>,
+    // The side that stands below on the boards.
+    below: Colour,
     // The side to move at the start.
     side: Colour,
-    // Of each page the text of the move by which it was found.
-    texts: Vec<ArrayVec<u8, 8>>,
+    // One for each page.
+    places: Vec<Place<'a>>,
 }
 
 impl<'a> Site<'a> {
-    /// No page of a book was made yet. Its pages are in this order, and it is one of the base of this name.
+    /// No page of a book was made yet. Its pages are in this order, it is one of the base of this name, and this side stands below on its
+    /// boards.
     pub fn new(
         alloc: Global,
         name: &'a [u8],
         book: &'a Book,
         order: &'a Order,
+        openings: &'a Openings<'a>,
+        below: Colour,
     ) -> Result<Site<'a>, AllocError> {
-        let mut texts = Vec::new(alloc);
+        let mut places = Vec::new(alloc);
         for _page in 0..book.len() {
-            texts.push(ArrayVec::new())?;
+            places.push(Place::unknown())?;
         }
         Ok(Site {
             name,
             book,
             order,
+            openings,
+            below,
             side: first_side(book),
-            texts,
+            places,
         })
     }
 
@@ -63,26 +79,66 @@ impl<'a> Site<'a> {
         match self.order.page(place) {
             Some(page) if page < self.book.len() => {
                 self.push_body(alloc, out, page)?;
-                push_games(out, games, self.book.firsts(page))?;
+                push_games(out, games, self.book.listed(page))?;
             }
             _ => return Ok(()),
         }
-        if place == 0 {
-            push_others_link(out)?;
+        if place == 0 && self.has_others() {
+            out.extend_from_slice(
+                b"<p><a href=\"others.html\">Positions that no other page leads to</a></p>\n",
+            )?;
         }
         out.extend_from_slice(b"</div>\n</main>\n</body>\n</html>\n")
     }
 
+    /// Whether there is a page beside the start that no page leads to.
+    pub fn has_others(&self) -> bool {
+        for place in 1..self.book.len() {
+            if let Some(page) = self.order.page(place) {
+                if self.order.came(page).is_none() {
+                    return true;
+                }
+            }
+        }
+        false
+    }
+
     /// Adds the page of those pages that no page leads to, which have all been made.
-    pub fn push_others(&self, out: &mut Vec<u8>) -> Result<(), AllocError> {
-        push_head(out, b"", self.name)?;
+    pub fn push_others(&self, alloc: Global, out: &mut Vec<u8>) -> Result<(), AllocError> {
+        push_head(out)?;
+        out.extend_from_slice(b"Positions that no other page leads to - ")?;
+        push_title_end(out, self.name)?;
         out.extend_from_slice(OTHERS)?;
         for place in 1..self.book.len() {
             if let Some(page) = self.order.page(place) {
-                self.push_other(out, page)?;
+                self.push_other(alloc, out, page)?;
             }
         }
         out.extend_from_slice(b"</ul>\n</body>\n</html>\n")
+    }
+
+    /// Adds the page of a game.
+    pub fn push_game(
+        &self,
+        alloc: Global,
+        out: &mut Vec<u8>,
+        head: &Head,
+        game: &Game,
+    ) -> Result<(), AllocError>
+        requires legal { IsLegalGame game.now }
+        requires bounded { IsBounded head.now }
+    {
+        push_game_page(alloc, out, self, head, game)
+    }
+
+    /// What stands above each page.
+    pub(crate) fn name(&self) -> &'a [u8] {
+        self.name
+    }
+
+    /// The side that stands below on the boards.
+    pub(crate) fn below(&self) -> Colour {
+        self.below
     }
 
     /// The book.
@@ -102,97 +158,220 @@ impl<'a> Site<'a> {
 
     /// The text of the move by which a page was found.
     pub(crate) fn text(&self, page: usize) -> &[u8] {
-        match self.texts.get(page) {
-            Some(text) => text.as_slice(),
+        match self.places.get(page) {
+            Some(place) => place.text.as_slice(),
             None => &[],
         }
     }
 
-    // Adds a link to a page, if no page leads to it.
-    fn push_other(&self, out: &mut Vec<u8>, page: usize) -> Result<(), AllocError> {
-        if self.order.came(page).is_some() {
-            return Ok(());
-        }
-        out.extend_from_slice(b"<li>")?;
-        push_link(out, self.order.place(page))?;
-        push_moves_to(out, self, page)?;
-        out.extend_from_slice(b"</a></li>\n")
-    }
-
-    // Adds a page up to the table of its moves.
-    fn push_body(&mut self, alloc: Global, out: &mut Vec<u8>, page: usize) -> Result<(), AllocError>
-        requires page { page < length self.old.book.now.boards }
-    {
-        push_head(out, self.text(page), self.name)?;
-        out.extend_from_slice(b"<header>\n<p>")?;
-        push_text(out, self.name)?;
-        out.extend_from_slice(b"</p>\n<p class=\"way\">")?;
-        push_way(alloc, out, self, page)?;
-        out.extend_from_slice(b"</p>\n</header>\n<main>\n<div class=\"boards\">\n")?;
-        let (board, side) = unpack(&self.book.board(page));
-        push_boards(out, &board, side)?;
-        out.extend_from_slice(b"</div>\n<div class=\"tables\">\n")?;
-        out.extend_from_slice(to_move(side))?;
-        let mut text = Vec::new(alloc);
-        lines(alloc, self.book.rows(page), &board, side, &mut text)?;
-        self.push_table(alloc, out, text.as_slice(), page)
-    }
-
-    // Adds the table of the moves of a page, of which this is the text of the tree.
-    fn push_table(
-        &mut self,
-        alloc: Global,
-        out: &mut Vec<u8>,
-        text: &[u8],
-        page: usize,
-    ) -> Result<(), AllocError>
-        requires page { page < length self.old.book.now.boards }
-    {
-        push_moves_head(out)?;
-        let mut rows = Vec::from_slice(alloc, self.book.rows(page))?;
-        rows.sort_by_key(|row| u32::MAX - row.games)?;
-        let mut rest = text;
-        for row in rows.as_slice() {
-            let (words, behind) = next_line(rest);
-            let to = self.book.led(page, row);
-            self.tell(page, to, next_word(words).0);
-            push_line(out, words, row, self.place(to))?;
-            rest = behind;
-        }
-        push_total(out, next_line(rest).0, rows.as_slice())
-    }
-
-    // The place of a page, if there is one.
-    fn place(&self, page: Option<usize>) -> Option<usize> {
-        match page {
-            Some(page) => Some(self.order.place(page)),
-            None => None,
+    // What is known of a page that no page leads to: what its first game tells, or its board.
+    fn begin(&mut self, page: usize) {
+        let place = match (self.book.way(page), self.board(page)) {
+            (Some(way), _) => Place::behind(way, self.openings),
+            (None, Some(board)) => Place::on(&board, self.openings),
+            (None, None) => return,
+        };
+        if let Some(known) = self.places.get_mut(page) {
+            *known = place;
         }
     }
 
-    // Tells the text of the move that leads to a page, if the page was found by it.
-    fn tell(&mut self, page: usize, to: Option<usize>, text: &[u8]) {
-        let Some(to) = to else {
+    // Tells what is known of the page that the move of a row leads to, if it was found by that.
+    fn tell(&mut self, page: usize, to: Option<usize>, row: &Row, name: &[u8]) {
+        let (Some(to), Some(mv)) = (to, &row.key) else {
             return;
         };
         if self.order.came(to) != Some(page) {
             return;
         }
-        if let Some(word) = self.texts.get_mut(to) {
-            *word = short(text);
+        let Some(board) = self.board(to) else {
+            return;
+        };
+        let next = match self.places.get(page) {
+            Some(place) => place.next(mv, short(name), &board, self.openings),
+            None => return,
+        };
+        if let Some(known) = self.places.get_mut(to) {
+            *known = next;
         }
     }
-}
 
-// The first eight bytes of a text.
-fn short(text: &[u8]) -> ArrayVec<u8, 8> {
-    let mut word = ArrayVec::new();
-    for byte in text {
-        if !word.is_full() {
-            word.push(*byte);
+    // The position of a page, if its board is one of a position.
+    fn position(&self, page: usize) -> Option<&Position> {
+        match self.places.get(page) {
+            Some(place) => place.position.as_ref(),
+            None => None,
         }
     }
-    word
+
+    // The move that led to a page.
+    fn last_move(&self, page: usize) -> Option<Move> {
+        match self.places.get(page) {
+            Some(place) => place.last,
+            None => None,
+        }
+    }
+
+    /// Adds the beginning of a link to a page.
+    pub(crate) fn push_page_link(&self, out: &mut Vec<u8>, page: usize) -> Result<(), AllocError> {
+        match self.board(page) {
+            Some(board) => push_link(out, &board),
+            None => out.extend_from_slice(b"<a>"),
+        }
+    }
+
+    // The board of a page, if there is one.
+    fn board(&self, page: usize) -> Option<PackedBoard> {
+        if page < self.book.len() {
+            Some(self.book.board(page))
+        } else {
+            None
+        }
+    }
+
+    // Adds a link to a page, if no page leads to it.
+    fn push_other(&self, alloc: Global, out: &mut Vec<u8>, page: usize) -> Result<(), AllocError> {
+        if self.order.came(page).is_some() {
+            return Ok(());
+        }
+        out.extend_from_slice(b"<li>")?;
+        self.push_page_link(out, page)?;
+        push_line(out, self.side, first_steps(alloc, self, page)?.as_slice())?;
+        out.extend_from_slice(b"</a></li>\n")
+    }
+
+    // Adds a page up to the games.
+    fn push_body(&mut self, alloc: Global, out: &mut Vec<u8>, page: usize) -> Result<(), AllocError>
+        requires page { page < length self.old.book.now.boards }
+    {
+        let book = self.book;
+        if self.order.came(page).is_none() {
+            self.begin(page);
+        }
+        let steps = way_to(alloc, self, page)?;
+        self.push_front(out, steps.as_slice(), page)?;
+        let (board, side) = unpack(&book.board(page));
+        push_boards(out, &board, self.below, &self.last_move(page))?;
+        self.push_copies(alloc, out, steps.as_slice(), page)?;
+        out.extend_from_slice(b"</div>\n<div class=\"tables\">\n")?;
+        out.extend_from_slice(to_move(side))?;
+        self.push_opening(out, page)?;
+        self.push_table(alloc, out, book, page)
+    }
+
+    // Adds what stands before the board of a page to which these moves lead.
+    fn push_front(&self, out: &mut Vec<u8>, steps: &[Step], page: usize) -> Result<(), AllocError> {
+        push_head(out)?;
+        if !steps.is_empty() {
+            push_line(out, self.side, steps)?;
+            out.extend_from_slice(b" - ")?;
+        }
+        push_title_end(out, self.name)?;
+        out.extend_from_slice(b"<header>\n<p>")?;
+        push_text(out, self.name)?;
+        out.extend_from_slice(b"</p>\n<nav class=\"way\" aria-label=\"Moves\">")?;
+        self.push_start(out, page)?;
+        push_way(out, self, steps, page)?;
+        out.extend_from_slice(b"</nav>\n</header>\n<main>\n<div class=\"boards\">\n")
+    }
+
+    // Adds a link to the start, but on its own page.
+    fn push_start(&self, out: &mut Vec<u8>, page: usize) -> Result<(), AllocError> {
+        if page == 0 {
+            return out.extend_from_slice(b"<b>Start</b>");
+        }
+        out.extend_from_slice(b"<a href=\"index.html\">Start</a>")
+    }
+
+    // Adds the position of a page and the moves that lead there, to be copied.
+    fn push_copies(
+        &self,
+        alloc: Global,
+        out: &mut Vec<u8>,
+        steps: &[Step],
+        page: usize,
+    ) -> Result<(), AllocError> {
+        out.extend_from_slice(b"<div class=\"copies\">\n")?;
+        if let Some(position) = self.position(page) {
+            out.extend_from_slice(b"<label>FEN <input readonly value=\"")?;
+            push_text(out, write_fen(alloc, position)?.as_bytes())?;
+            out.extend_from_slice(b"\"></label>\n")?;
+        }
+        if !steps.is_empty() {
+            out.extend_from_slice(b"<label>Moves <input readonly value=\"")?;
+            push_line(out, self.side, steps)?;
+            out.extend_from_slice(b"\"></label>\n")?;
+        }
+        out.extend_from_slice(b"</div>\n")
+    }
+
+    // Adds the code and the name of the last opening on the way to a page, if it has one.
+    fn push_opening(&self, out: &mut Vec<u8>, page: usize) -> Result<(), AllocError> {
+        let Some(place) = self.places.get(page) else {
+            return Ok(());
+        };
+        let Some(opening) = place.opening else {
+            return Ok(());
+        };
+        out.extend_from_slice(b"<p class=\"opening\"><b>")?;
+        push_text(out, opening.code)?;
+        out.extend_from_slice(b"</b> ")?;
+        push_text(out, opening.name)?;
+        out.extend_from_slice(b"</p>\n")
+    }
+
+    // Adds the table of the moves of a page.
+    fn push_table(
+        &mut self,
+        alloc: Global,
+        out: &mut Vec<u8>,
+        book: &Book,
+        page: usize,
+    ) -> Result<(), AllocError>
+        requires page { page < length book.now.boards }
+    {
+        let (board, side) = unpack(&book.board(page));
+        let mut text = Vec::new(alloc);
+        lines(alloc, book.rows(page), &board, side, &mut text)?;
+        let mut rows = Vec::from_slice(alloc, book.rows(page))?;
+        rows.sort_by_key(|row| u32::MAX - row.games)?;
+        push_moves_head(out)?;
+        self.push_moves(out, page, rows.as_slice(), text.as_slice())
+    }
+
+    // Adds the rows of the table of a page and their sums, where this is the text of the tree, whose lines begin with the moves of the rows.
+    fn push_moves(
+        &mut self,
+        out: &mut Vec<u8>,
+        page: usize,
+        rows: &[Row],
+        text: &[u8],
+    ) -> Result<(), AllocError> {
+        let total = Sums::of(rows);
+        if rows.is_empty() {
+            return push_total(out, &total);
+        }
+        out.extend_from_slice(b"<tbody>\n")?;
+        let mut rest = text;
+        for row in rows {
+            let (line, behind) = next_line(rest);
+            let name = next_word(line).0;
+            let to = self.book.led(page, row);
+            self.tell(page, to, row, name);
+            push_row(out, name, &Sums::one(row), total.games, self.linked(to))?;
+            rest = behind;
+        }
+        out.extend_from_slice(b"</tbody>\n")?;
+        push_total(out, &total)
+    }
+
+    // The board of the page that a move leads to.
+    fn linked(&self, to: Option<usize>) -> Option<PackedBoard> {
+        match to {
+            Some(page) => self.board(page),
+            None => None,
+        }
+    }
 }
 
 // The side to move on the first page.

@@ -32,7 +32,7 @@ use Rattle.sig_index.proofs.SigOf.{parts}
 use Rattle.sig_index.proofs.SkippingLemmas.{skipping_sound}
 use Rattle.pos_search.specs.Matching.{first_if_aside, first_of, first_on_main, is_sought, matches_at}
 use Rattle.pos_search.proofs.Words.{first_aside}
-use Rattle.pos_search.specs.Passing.{fixes_pawns, just, passes, passes_main}
+use Rattle.pos_search.specs.Passing.{fixes_pawns, just, looks_into, passes, passes_main}
 use Rattle.pos_search.specs.Sought.{can_follow, has_homes}
 use Rattle.pos_search.proofs.MatchLemmas.{matched}
 
@@ -59,7 +59,7 @@ unfolding passes
 match_passes game sig query ply sound legal is within holds =
     let men = (position_at game ply).board in
     let m = matched query (position_at game ply) holds in
-    or_right (query.vars && not (sig.vars == 0)) (passes_main sig query)
+    or_right (looks_into sig query) (passes_main sig query)
     (and_from (not (fixes_pawns query.mode) || home_allows sig (home_set query.board)) (can_stand sig (just (counts_of query.board)))
     (if_fixed (fixes_pawns query.mode) (home_allows sig (home_set query.board))
     (λ fixed. ap (home_allows sig) (sym (same_set men query.board (m.homes fixed))) ∙ home_sound game sig ply sound legal is within))
@@ -74,10 +74,14 @@ refused game sig query ply sound legal is within not = elim (cases_Bool (matches
 ]
 
 -- A query that looks in variations passes over games that have none.
-vars_false : (a b c : Bool) → (a && not b || c) ≡ false → a ≡ true → b ≡ true
-vars_false a true c h looks = refl
-vars_false true false c h looks = absurd (cc)
-vars_false false false c h looks = absurd (cc)
+vars_false : (a b : Bool) → (a && not b) ≡ false → a ≡ true → b ≡ true
+vars_false a true h looks = refl
+vars_false true false h looks = absurd (cc)
+vars_false false false h looks = absurd (cc)
+
+left_false : (a b : Bool) → (a || b) ≡ false → a ≡ false
+left_false false b h = refl
+left_false true b h = absurd (cc)
 
 code_by : (few : Bool) (n rest : ℕ) → 0 < rest → cond few n rest ≡ 0 → n ≡ 0
 code_by true n rest some h = h
@@ -86,12 +90,18 @@ code_by false n rest some h = absurd (omega (arith, some, h))
 code_none : (n : ℕ) → count_code n ≡ 0 → n ≡ 0
 code_none n h = code_by (nat_le n 10) n (10 + count_by (λ most. nat_lt most n) (12 ∷ 17 ∷ 24 ∷ 34 ∷ 44 ∷ [])) (omega arith) h
 
-pub no_variations : (game : GameTree) (sig : Sig) (query : PosQuery) → IsSig game sig → passes sig query ≡ false → query.vars ≡ true → variations_of game ≡ 0
-unfolding passes
-no_variations game sig query is not looks =
-    let none : (sig.vars == 0) ≡ true = vars_false query.vars (sig.vars == 0) (passes_main sig query) not looks in
+none_into : (game : GameTree) (sig : Sig) (query : PosQuery) → IsSig game sig → looks_into sig query ≡ false → query.vars ≡ true → variations_of game ≡ 0
+none_into game sig query is not looks =
+    let none : (sig.vars == 0) ≡ true = vars_false query.vars (sig.vars == 0) not looks in
     let zero_code : sig.vars ≡ 0 = grind (arith, nat_tests) in
     code_none (variations_of game) (sym (parts game sig is).vars ∙ zero_code)
+
+not_into : (sig : Sig) (query : PosQuery) → passes sig query ≡ false → looks_into sig query ≡ false
+unfolding passes
+not_into sig query not = left_false (looks_into sig query) (passes_main sig query) not
+
+pub no_variations : (game : GameTree) (sig : Sig) (query : PosQuery) → IsSig game sig → passes sig query ≡ false → query.vars ≡ true → variations_of game ≡ 0
+no_variations game sig query is not looks = none_into game sig query is (not_into sig query not) looks
 
 main_alone : (p : Setup) (ply : ℕ) (line : Line) → variations_in line ≡ 0 → filter (λ (v : Visit). not v.main) (line_visits true p ply line) ≡ []
 main_alone p ply ends none = refl
@@ -106,9 +116,12 @@ aside_none : (query : PosQuery) (game : GameTree) (vars : Bool) → query.vars �
 aside_none query game true is none = ap (λ (ps : List (Setup × ℕ)). option_map (λ (p : Setup × ℕ). p.1) (find (is_sought query) ps)) (none is)
 aside_none query game false is none = refl
 
+pub unlooked_aside : (game : GameTree) (sig : Sig) (query : PosQuery) → IsSig game sig → looks_into sig query ≡ false → first_if_aside query game ≡ None
+unlooked_aside game sig query is not =
+    aside_none query game query.vars refl (λ looks. no_places game (none_into game sig query is not looks))
+
 pub refused_aside : (game : GameTree) (sig : Sig) (query : PosQuery) → IsSig game sig → passes sig query ≡ false → first_if_aside query game ≡ None
-refused_aside game sig query is not =
-    aside_none query game query.vars refl (λ looks. no_places game (no_variations game sig query is not looks))
+refused_aside game sig query is not = unlooked_aside game sig query is (not_into sig query not)
 
 pub refused_main : (game : GameTree) (sig : Sig) (query : PosQuery) → Sound game.start → IsLegalGame game → IsSig game sig → passes sig query ≡ false → first_on_main query game ≡ None
 refused_main game sig query sound legal is not =

@@ -25,7 +25,11 @@ abbrev pub passes_main : Sig → PosQuery → Bool
 passes_main sig query =
     (not (fixes_pawns query.mode) || home_allows sig (home_set query.board)) && can_stand sig (just (counts_of query.board))
 
+-- The variations of a game with this signature are looked at: the query looks there, and the game has some.
+abbrev pub looks_into : Sig → PosQuery → Bool
+looks_into sig query = query.vars && not (sig.vars == 0)
+
 -- A game with this signature can match: its main line, or a variation where it has some and the query looks there. The signature tells
 -- nothing of the men in variations.
 unfoldable pub passes : Sig → PosQuery → Bool
-passes sig query = (query.vars && not (sig.vars == 0)) || passes_main sig query
+passes sig query = looks_into sig query || passes_main sig query

@@ -41,7 +41,7 @@ impl<'s, 'a> Question for Asked<'s, 'a> {
         }
     }
 
-    fn in_record(&self, record: &[u8]) -> Result<Option<u32>, RecordFault> {
-        ply_sought(record, &self.sought)
+    fn in_record(&self, record: &[u8], sig: &Brief<'_>) -> Result<Option<u32>, RecordFault> {
+        ply_sought(record, sig, &self.sought)
     }
 }

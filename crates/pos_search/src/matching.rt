@@ -5,7 +5,7 @@ ghost use Rattle.chess_laws.specs.Position.{Sound};
 ghost use Rattle.sig_index.specs.Coming.{can_come};
 ghost use Rattle.sig_index.specs.Homes.{IsHomeList};
 ghost use Rattle.pos_search.specs.Matching.{alike, matches, same_counts};
-ghost use Rattle.pos_search.specs.Passing.{fixes_pawns, just, passes};
+ghost use Rattle.pos_search.specs.Passing.{fixes_pawns, just, looks_into, passes};
 ghost use Rattle.pos_search.specs.Sought.{IsTold, can_follow, has_homes};
 
 use crate::boards::{home_set, same_files, same_pawns};
@@ -80,10 +80,17 @@ impl<'a> Sought<'a> {
         requires home { IsHomeList s.now.home }
         ensures passes { result ≡ passes s.now self.now }
     {
-        if self.query.vars && s.variations() != 0 {
+        if self.looks_into(s) {
             return true;
         }
         (!fixes_pawns(self.query.mode) || home_allows(s, self.homes)) && can_stand(s, &self.range)
+    }
+
+    // Whether variations of a game with this signature are looked at: the query looks there, and it has some.
+    pub(crate) fn looks_into(&self, s: &Brief<'_>) -> bool
+        ensures into { result ≡ looks_into s.now self.now }
+    {
+        self.query.vars && s.variations() != 0
     }
 
     // Whether variations are looked at too.

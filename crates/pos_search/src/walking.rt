@@ -5,12 +5,13 @@ ghost use Rattle.game_tree.specs.Game.{GameTree};
 ghost use Rattle.game_tree.specs.declared.head.Tag.{Tag};
 ghost use Rattle.pos_search.specs.Matching.{IsLegalFrom, first_of, first_on_main, hit_of, hit_on_main, matches};
 ghost use Rattle.pos_search.specs.Searching.{ply_of};
+ghost use Rattle.sig_index.specs.Signature.{IsSig};
 ghost use Rattle.pos_search.specs.Sought.{Met, found_aside};
 
 use crate::matching::Sought;
 use cell_core::Move;
 use game_codec::{AllWalk, RecordFault, Walk};
-use sig_index::PosQuery;
+use sig_index::{Brief, PosQuery};
 
 /// The first ply of the main line of a record that matches, with the move after it; where none does and the query looks in variations, the
 /// ply of the first of their places that does, without a move; or `None` where nothing matches. A record has fewer than 2^32 bytes. No
@@ -100,19 +101,34 @@ fn hit_aside(found: Option<u32>) -> Option<(u32, Option<Move>)>
     }
 }
 
-// The ply alone, for which the move after it is not played.
-pub(crate) fn ply_sought(bytes: &[u8], q: &Sought<'_>) -> Result<Option<u32>, RecordFault>
+// The ply alone, for which the move after it is not played, of a game with this signature: it tells which games have no variations.
+#[tactic(auto, using(crate::proofs::SearchLemmas::main_is_first))]
+pub(crate) fn ply_sought(
+    bytes: &[u8],
+    sig: &Brief<'_>,
+    q: &Sought<'_>,
+) -> Result<Option<u32>, RecordFault>
     requires few { length bytes.now < 2 ^ 32 }
+    ensures first { IfOk result (λ ply. (tags : List Tag) (game : GameTree) → IsRecord bytes.now tags game → IsSig game sig.now → ply ≡ first_of q.now game) }
+    ensures fault { IfErr result (λ _. IsSomeRecord bytes.now → ⊥) }
+{
+    let found = ply_on_main(bytes, q)?;
+    if found.is_none() && q.looks_into(sig) {
+        return ply_in_lines(bytes, q);
+    }
+    Ok(found)
+}
+
+// The same of all lines.
+fn ply_in_lines(bytes: &[u8], q: &Sought<'_>) -> Result<Option<u32>, RecordFault>
+    requires few { length bytes.now < 2 ^ 32 }
+    requires aside { IsTrue q.now.vars }
     ensures first { IfOk result (λ ply. (tags : List Tag) (game : GameTree) → IsRecord bytes.now tags game → ply ≡ first_of q.now game) }
     ensures fault { IfErr result (λ _. IsSomeRecord bytes.now → ⊥) }
 {
-    if q.looks_aside() {
-        match first_in_lines(bytes, q) {
-            Ok(hit) => Ok(ply_of(hit)),
-            Err(fault) => Err(fault),
-        }
-    } else {
-        ply_on_main(bytes, q)
+    match first_in_lines(bytes, q) {
+        Ok(hit) => Ok(ply_of(hit)),
+        Err(fault) => Err(fault),
     }
 }
 

@@ -8,7 +8,7 @@ ghost use Rattle.game_tree.specs.Game.{GameTree};
 ghost use Rattle.sig_index.specs.Games.{AreWithin, Holds, extent_in};
 ghost use Rattle.report_commands.specs.Classifying.{classified_by, classified_text, eco_work, state_by, text_by};
 ghost use Rattle.report_commands.specs.Ends.{AreCoded, IsCode, IsCoded};
-ghost use Rattle.shell_state.specs.Ends.{IsDevice, IsBodyFault};
+ghost use Rattle.shell_state.specs.Ends.{IsDevice, IsBodyFault, Unsaid};
 ghost use Rattle.shell_state.specs.Stands.{Stands, Sound, WhyHalt, Asks, Broken};
 ghost use Rattle.shell_state.specs.State.{State};
 ghost use Rattle.shell_state.specs.Work.{works};
@@ -23,6 +23,7 @@ use sig_index::Games;
 use std::alloc::Global;
 
 /// eco <<WORD
+#[tactic(auto, using(shell_state::proofs::Causing::unsaid_without))]
 pub fn eco<F: Files, B: Source, K: Sink>(
     alloc: Global,
     machine: &mut Machine,
@@ -36,6 +37,7 @@ pub fn eco<F: Files, B: Source, K: Sink>(
     ensures unchanged { F.seen files.new ≡ F.seen files.old }
     ensures asks { Asks machine.old (eco_work []) (F.asked files.old) (F.asked files.new) }
     ensures same { B.origin body.new ≡ B.origin body.old }
+    ensures unsaid { IfErr result (λ e. Unsaid e (K.taken out.old) (K.taken out.new)) }
     ensures none_lost { NoneLost (K.taken out.old) (K.taken out.new) }
     ensures causes { Causes WhyHalt result (counts (F.faults files.old) (B.faults body.old) (K.faults out.old)) (counts (F.faults files.new) (B.faults body.new) (K.faults out.new)) }
 {

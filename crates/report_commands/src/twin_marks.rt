@@ -8,7 +8,7 @@ ghost use Rattle.twin_games.specs.Asking.{price};
 ghost use Rattle.twin_games.specs.Twins.{twins_of};
 ghost use Rattle.report_commands.specs.Ends.{Marked, halt_of_twins, twins_line};
 ghost use Rattle.report_commands.specs.Twins.{found_twins, twins_work, with_deleted};
-ghost use Rattle.shell_state.specs.Ends.{IsDevice};
+ghost use Rattle.shell_state.specs.Ends.{IsDevice, Unsaid};
 ghost use Rattle.shell_state.specs.Stands.{Stands, Sound, Broken, WhyHalt, Asks};
 ghost use Rattle.shell_state.specs.State.{State};
 ghost use Rattle.shell_state.specs.Work.{works};
@@ -21,6 +21,7 @@ use std::alloc::{AllocError, Global};
 use twin_games::TwinError;
 
 /// twins D
+#[tactic(auto, using(shell_state::proofs::Causing::unsaid_without))]
 pub fn twins<F: Files, K: Sink>(
     alloc: Global,
     machine: &mut Machine,
@@ -33,6 +34,7 @@ pub fn twins<F: Files, K: Sink>(
     ensures sound { OnOk result (Sound machine.new (F.seen files.new)) }
     ensures unchanged { F.seen files.new ≡ F.seen files.old }
     ensures asks { Asks machine.old (twins_work depth) (F.asked files.old) (F.asked files.new) }
+    ensures unsaid { IfErr result (λ e. Unsaid e (K.taken out.old) (K.taken out.new)) }
     ensures none_lost { NoneLost (K.taken out.old) (K.taken out.new) }
     ensures causes { Causes WhyHalt result (counts (F.faults files.old) 0 (K.faults out.old)) (counts (F.faults files.new) 0 (K.faults out.new)) }
 {

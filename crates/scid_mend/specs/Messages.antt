@@ -6,7 +6,7 @@ use Rattle.scid_mend.specs.declared.status.Status.TheVariants as status
 -- The line for a status, of a faulty index and of a limit its beginning; none for a run that is done.
 abbrev pub line_of : Status → List ℕ
 line_of status.All = codes ""
-line_of status.Some = codes ""
+line_of status.NotAll = codes ""
 line_of (status.BadIndex fault) = codes "bad base: index file: "
 line_of status.WriteFault = codes "write fault"
 line_of status.FilesFault = codes "files fault"

@@ -4,10 +4,12 @@
 ghost use Rattle.std.specs.Prelude.{◌≡◌, MatchResult};
 ghost use Rattle.scid_mend.specs.declared.status.Status.TheVariants as done;
 
+mod back;
 mod messages;
 mod printer;
 mod status;
 
+use back::put_back;
 use base_files::Files;
 use mend_base::mend;
 use messages::{HELP, VERSION, message};
@@ -16,12 +18,14 @@ use status::Status;
 use std::io::{BufWriter, ErrorKind};
 use std::process::ExitCode;
 use std::{env, io};
-use std_devices::{DiskFiles, make_base, unmake_base};
+use std_devices::{DiskFiles, hold_standard_streams};
+use watched_devices::{ProgressLine, Watched};
 
 /// The bytes of the longest record and of a block of the games file.
 const BLOCK_LEN: usize = 131_072;
 
 fn main(rt: HostRuntime) -> ExitCode {
+    hold_standard_streams(&rt);
     match words(&rt) {
         Ok(words) => end(&rt, answer(&rt, words.as_slice())),
         Err(status) => end(&rt, status),
@@ -42,6 +46,7 @@ fn answer(rt: &HostRuntime, words: &[String]) -> Status {
     match words {
         [word] if word.as_str() == "--help" => printed(print!(rt; "{HELP}")),
         [word] if word.as_str() == "--version" => printed(print!(rt; "{VERSION}")),
+        [word, base] if word.as_str() == "--back" && is_name(base) => put_back(rt, base),
         [old, new] if is_name(old) && is_name(new) => run(rt, old, new),
         _ => Status::Usage,
     }
@@ -64,31 +69,34 @@ fn printed(outcome: io::Result<()>) -> Status
 
 /// Makes the files of the new base, mends, and takes them away again where that fails.
 fn run(rt: &HostRuntime, old: &str, new: &str) -> Status {
-    let mut old_files = DiskFiles::read_only(rt.alloc(), rt);
+    let line = ProgressLine::of_mending(rt);
+    let mut old_files = Watched::new(DiskFiles::of_faulty_base(rt.alloc(), rt), &line);
     if let Err(error) = old_files.choose(old, false) {
         return Status::of_files(error);
     }
-    if let Err(error) = make_base(rt.alloc(), rt, new) {
-        return Status::of_files(error);
-    }
-    let mut new_files = DiskFiles::new(rt.alloc(), rt);
-    let outcome = mend_files(rt, &mut old_files, &mut new_files, new);
-    new_files.close();
+    let mut new_files = Watched::new(DiskFiles::of_new_base(rt.alloc(), rt), &line);
+    let outcome = mend_files(rt, &mut old_files, &mut new_files, new, &line);
+    line.clear();
+    let mut new_files = new_files.into_device();
     match outcome {
-        Ok(status) => status,
+        Ok(status) => {
+            new_files.close();
+            status
+        }
         Err(status) => {
-            unmake_base(rt.alloc(), rt, new);
+            new_files.take_away();
             status
         }
     }
 }
 
 /// Mends the old base into the new one, and says how many games came over.
-fn mend_files(
+fn mend_files<F: Files, N: Files>(
     rt: &HostRuntime,
-    old: &mut DiskFiles<'_>,
-    new: &mut DiskFiles<'_>,
+    old: &mut F,
+    new: &mut N,
     name: &str,
+    line: &ProgressLine<'_>,
 ) -> Result<Status, Status> {
     if let Err(error) = new.choose(name, false) {
         return Err(Status::of_files(error));
@@ -99,7 +107,7 @@ fn mend_files(
     let Ok(writer) = BufWriter::new(rt.alloc(), io::writer(rt)) else {
         return Err(Status::Memory);
     };
-    let mut printer = Printer::new(writer);
+    let mut printer = Printer::new(writer, line);
     match mend(rt.alloc(), old, new, &mut printer, buf.as_mut_slice()) {
         Ok(mended) => Ok(Status::of_mended(mended, printer.end(mended))),
         Err(error) => {
@@ -113,7 +121,7 @@ fn mend_files(
 fn end(rt: &HostRuntime, status: Status) -> ExitCode {
     let line = message(&status);
     let _ = match status {
-        Status::All | Status::Some => Ok(()),
+        Status::All | Status::NotAll => Ok(()),
         Status::BadIndex(fault) => eprintln!(rt; "{line}{fault}"),
         Status::Full(what) => eprintln!(rt; "{line}{what}"),
         _ => eprintln!(rt; "{line}"),

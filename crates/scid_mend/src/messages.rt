@@ -7,23 +7,32 @@ use crate::status::Status;
 /// The answer to `--help`.
 pub const HELP: &str = "\
 usage: scid_mend OLD NEW
+       scid_mend --back BASE
 
 Makes the Scid base NEW.si4, NEW.sn4, NEW.sg4 of every game of the base OLD
 that is whole, in order. OLD is read, and nothing of it is changed. NEW is
 refused where one of its files is there.
 
-A game is whole where its entry in the index and its record have no fault. A
-game of which a name is missing comes over with ? in its place. What becomes of
-the others stands on standard output, a line a game, with its first fault:
+A game is whole where its entry in the index and its record have no fault. All
+entries of the index are looked at, whatever its header counts. A game of which
+a name is missing comes over with ? in its place. What becomes of the others
+stands on standard output, a line a game, with its first fault:
 
-  left out G: FAULT   the game G does not come over
-  changed G: FAULT    it comes over with ? for a name
+  left out G: FAULT        the game G does not come over
+  left out G to H: FAULT   nor do these, of which the index has no entries
+  changed G: FAULT         the game G comes over with ? for a name
+  counted C, found F       the header counts C games, and there are F entries
+  index file: FAULT; its entries are tried
 
-and at the end `mended G of N games`.
+and at the end `mended G of N games, C changed`.
 
-Exit status: 0 all games came over, 1 some did not, 2 no index, 4 write fault,
-5 files fault, 8 out of memory, 9 usage, 10 a limit of the new base. What it was
-is told on standard error.
+With --back it puts right what a run left beside BASE that was broken off: it
+puts the files back that a compact had set aside, or finishes a compact whose
+new files all have their places, takes away the others, and says which it did.
+
+Exit status: 0 all games came over as they were, 2 no index, 4 write fault,
+5 files fault, 8 out of memory, 9 usage, 10 a limit of the new base, 11 some
+games were changed or left out. What it was is told on standard error.
 ";
 
 /// The answer to `--version`.
@@ -34,7 +43,7 @@ pub fn message(status: &Status) -> &'static str
     ensures line { result.now ≡ line_of status.now }
 {
     match status {
-        Status::All | Status::Some => "",
+        Status::All | Status::NotAll => "",
         Status::BadIndex(_) => "bad base: index file: ",
         Status::WriteFault => "write fault",
         Status::FilesFault => "files fault",

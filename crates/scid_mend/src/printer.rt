@@ -1,21 +1,24 @@
 //! The report on standard output.
-ghost use Rattle.std.specs.Prelude.{◌≡◌, ◌≤◌, None, IfErr};
+ghost use Rattle.std.specs.Prelude.{◌≡◌, ◌≤◌, None, [], IfErr, OnErr, OnOk};
 ghost use Rattle.base_files.specs.Causes.{HasCause};
+ghost use Rattle.mend_base.specs.Notes.{with_note, with_notes};
 
 use base_files::{DeviceError, FaultCount};
 use mend_base::{Mended, Note, Report};
 use std::io;
 use std::io::Write;
 use std::marker::Model;
+use watched_devices::ProgressLine;
 
 /// A report that writes a line for each note, and tells nothing of them.
 #[derive(Drop)]
-pub struct Printer<W> {
+pub struct Printer<'p, W> {
     writer: W,
+    line: &'p ProgressLine<'p>,
     faults: FaultCount,
 }
 
-impl<W> Model for Printer<W> {
+impl<'p, W> Model for Printer<'p, W> {
     ghost use Rattle.std.specs.Prelude.{ℕ};
 
     ghost Value = { ℕ };
@@ -23,18 +26,24 @@ impl<W> Model for Printer<W> {
     ghost view = { λ printer. printer.faults };
 }
 
-impl<W: Write> Printer<W> {
-    /// A printer to this writer, which counted no fault yet.
-    pub fn new(writer: W) -> Printer<W> {
+impl<'p, W: Write> Printer<'p, W> {
+    /// A printer to this writer, which counted no fault yet. The progress line goes where it writes.
+    pub fn new(writer: W, line: &'p ProgressLine<'p>) -> Printer<'p, W> {
         Printer {
             writer,
+            line,
             faults: FaultCount::new(),
         }
     }
 
     /// Writes the last line, and hands on what the writer holds back.
     pub fn end(&mut self, mended: Mended) -> io::Result<()> {
-        writeln!(self.writer, "mended {} of {} games", mended.came, mended.of)?;
+        self.line.before_text();
+        writeln!(
+            self.writer,
+            "mended {} of {} games, {} changed",
+            mended.came, mended.of, mended.changed
+        )?;
         self.flush()
     }
 
@@ -44,15 +53,18 @@ impl<W: Write> Printer<W> {
     }
 }
 
-impl<W: Write> Report for Printer<W> {
+impl<'p, W: Write> Report for Printer<'p, W> {
     ghost told = { λ _. None };
 
     ghost faults = { λ printer. printer };
 
     fn tell(&mut self, note: &Note) -> Result<(), DeviceError>
+        ensures told { OnOk result (None ≡ with_note None note.now) }
+        ensures not_told { OnErr result (None ≡ with_notes None []) }
         ensures counts { self.old ≤ self.new }
         ensures cause { IfErr result (λ e. HasCause e self.old self.new) }
     {
+        self.line.before_text();
         match writeln!(self.writer, "{note}") {
             Ok(()) => Ok(()),
             Err(error) => Err(self.faults.error(error.kind())),

@@ -1,6 +1,6 @@
 //! How a run of the program ends.
 ghost use Rattle.std.specs.Prelude.{◌≡◌, MatchResult};
-ghost use Rattle.scid_mend.specs.Statuses.{exit_code_of, files_status, mended_status, mending_status};
+ghost use Rattle.scid_mend.specs.Statuses.{changed_status, exit_code_of, files_status, mended_status, mending_status};
 ghost use Rattle.scid_mend.specs.declared.status.Status.TheVariants as done;
 
 use base_core::What;
@@ -12,10 +12,10 @@ use std::io;
 /// How a run ended.
 #[derive(Clone, Copy, Debug, Drop, PartialEq, Eq)]
 pub enum Status {
-    /// All games came over, or a text was printed.
+    /// All games came over as they were, or a text was printed.
     All,
-    /// Some did not.
-    Some,
+    /// Some were changed or left out.
+    NotAll,
     /// The header of the old index is faulty.
     BadIndex(IndexFault),
     /// The output failed.
@@ -46,9 +46,20 @@ impl Status {
         ensures status { MatchResult outcome (λ _. result ≡ mended_status mended) (λ _. result ≡ done.WriteFault) }
     {
         match outcome {
-            Ok(()) if mended.came == mended.of => Status::All,
-            Ok(()) => Status::Some,
+            Ok(()) if mended.came == mended.of => Status::of_changed(mended.changed),
+            Ok(()) => Status::NotAll,
             Err(_) => Status::WriteFault,
+        }
+    }
+
+    // The status after all games came over, so many of them changed.
+    fn of_changed(changed: u32) -> Status
+        ensures status { result ≡ changed_status changed }
+    {
+        if changed == 0 {
+            Status::All
+        } else {
+            Status::NotAll
         }
     }
 
@@ -58,13 +69,13 @@ impl Status {
     {
         match self {
             Status::All => 0,
-            Status::Some => 1,
             Status::BadIndex(_) => 2,
             Status::WriteFault => 4,
             Status::FilesFault => 5,
             Status::Memory => 8,
             Status::Usage => 9,
             Status::Full(_) => 10,
+            Status::NotAll => 11,
         }
     }
 }

@@ -1,5 +1,5 @@
 //! How a run ends.
-use base_core::{BaseFault, OpenError};
+use base_core::{BaseFault, EditError, OpenError};
 use base_files::{DeviceError, Stop};
 use book_pages::BookError;
 use sig_index::FetchError;
@@ -14,6 +14,10 @@ pub enum End {
     Usage,
     /// The files of the base have this first fault.
     BadBase(BaseFault),
+    /// The file of names was not read.
+    ReadFault,
+    /// This line of the file of names has no code in front, or a move that is not legal.
+    BadName(u32),
     /// The output, or a page, was not written.
     WriteFault,
     /// The files of the base failed.
@@ -30,6 +34,7 @@ impl End {
         match self {
             End::Usage => 1,
             End::BadBase(_) => 2,
+            End::ReadFault | End::BadName(_) => 3,
             End::WriteFault => 4,
             End::FilesFault => 5,
             End::Changed(_) => 6,
@@ -66,6 +71,16 @@ impl From<BookError> for End {
             BookError::Fetch(FetchError::Failed) => End::FilesFault,
             BookError::Fetch(FetchError::Changed { game, .. }) => End::Changed(game),
             BookError::Memory => End::Memory,
+        }
+    }
+}
+
+impl From<EditError> for End {
+    fn from(error: EditError) -> End {
+        match error {
+            EditError::Changed { game, .. } | EditError::NoGame(game) => End::Changed(game),
+            EditError::Failed | EditError::TooLong(_) | EditError::Full(_) => End::FilesFault,
+            EditError::Memory => End::Memory,
         }
     }
 }

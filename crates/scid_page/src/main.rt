@@ -1,33 +1,37 @@
 //! `scid_page [--depth D] [--least N] [--only ITEMS] [--from BOARD SIDE] BASE FOLDER`: makes of a Scid base a folder of linked pages.
 #![tactic(auto)]
 
-ghost use Rattle.std.specs.Prelude.{◌≡◌, IfOk, length};
+ghost use Rattle.std.specs.Prelude.{◌≡◌, ◌≤◌, IfOk, length};
 ghost use Rattle.base_core.specs.Represents.{IsSound, extents_of};
 ghost use Rattle.sig_index.specs.Games.{AreWithin};
 
 mod end;
 mod folder;
 mod messages;
+mod names;
 mod only;
+mod own;
 mod pages;
 mod words;
 
 use base_core::Base;
 use base_files::{Files, Sink, write_all};
-use book_pages::{Book, Reach, find_boards};
+use book_pages::{Book, Order, Reach, find_boards};
 use end::End;
 use folder::Folder;
 use game_filter::Filter;
 use head_search::HeadQuery;
 use messages::{HELP, VERSION, message};
+use names::{names_read, openings_read};
 use only::{games_asked, query_read};
-use pages::{title, write_pages};
+use page_html::{Openings, Site};
+use pages::{finish, title, write_games, write_pages};
 use sig_index::Games;
 use std::alloc::Global;
 use std::env;
 use std::io::ErrorKind;
 use std::process::ExitCode;
-use std_devices::{DiskFiles, StdSink};
+use std_devices::{DiskFiles, StdSink, hold_standard_streams};
 use watched_devices::{ProgressLine, Watched};
 use words::{Wanted, words_read};
 
@@ -35,6 +39,7 @@ use words::{Wanted, words_read};
 const BLOCK: usize = 131_072;
 
 fn main(rt: HostRuntime) -> ExitCode {
+    hold_standard_streams(&rt);
     match answered(&rt) {
         Ok(()) => ExitCode::from(0),
         Err(end) => told(&rt, &end),
@@ -63,18 +68,39 @@ fn given(rt: &HostRuntime) -> Result<Vec<String>, End> {
     }
 }
 
-// Makes the pages of the games that are asked for.
-fn run_asked(rt: &HostRuntime, wanted: &Wanted<'_>) -> Result<(), End> {
-    let query = query_read(rt.alloc(), wanted.only)?;
-    run(rt, wanted, &query)
+// What is asked for, with what was read of it.
+#[derive(Drop)]
+struct Asked<'a> {
+    wanted: &'a Wanted<'a>,
+    query: Option<HeadQuery>,
+    openings: Openings<'a>,
+    folder: Folder<'a>,
+}
+
+// Makes the pages that are asked for.
+fn run_asked<'a>(rt: &'a HostRuntime, wanted: &'a Wanted<'a>) -> Result<(), End> {
+    let alloc = rt.alloc();
+    let query = query_read(alloc, wanted.only)?;
+    let names = names_read(rt, wanted.names)?;
+    let openings = openings_read(alloc, names.as_slice())?;
+    let folder = Folder::look(rt, alloc, wanted.folder, wanted.existing)?;
+    run(
+        rt,
+        &Asked {
+            wanted,
+            query,
+            openings,
+            folder,
+        },
+    )
 }
 
 // Makes the pages of the real files, and says how far it is.
-fn run(rt: &HostRuntime, wanted: &Wanted<'_>, query: &Option<HeadQuery>) -> Result<(), End> {
+fn run(rt: &HostRuntime, asked: &Asked<'_>) -> Result<(), End> {
     let line = ProgressLine::new(rt);
     let mut files = Watched::new(DiskFiles::new(rt.alloc(), rt), &line);
     let mut out = Watched::new(StdSink::new(rt.stdout()), &line);
-    let made = make(rt, wanted, query, &mut files, &mut out, &line);
+    let made = make(rt, asked, &mut files, &mut out, &line);
     files.into_device().close();
     let flushed = out.into_device().flush();
     line.clear();
@@ -88,14 +114,13 @@ fn run(rt: &HostRuntime, wanted: &Wanted<'_>, query: &Option<HeadQuery>) -> Resu
 // Opens the base, says what it has, and makes its pages.
 fn make<F: Files, K: Sink>(
     rt: &HostRuntime,
-    wanted: &Wanted<'_>,
-    query: &Option<HeadQuery>,
+    asked: &Asked<'_>,
     files: &mut F,
     out: &mut K,
     line: &ProgressLine<'_>,
 ) -> Result<(), End> {
     let alloc = rt.alloc();
-    if let Err(error) = files.choose(wanted.base, false) {
+    if let Err(error) = files.choose(asked.wanted.base, false) {
         return Err(End::from(error.of_files()));
     }
     let mut block = vec![in alloc; 0; BLOCK]?;
@@ -104,23 +129,13 @@ fn make<F: Files, K: Sink>(
     if opened.is_err() {
         return opened;
     }
-    make_chosen(
-        rt,
-        wanted,
-        query,
-        &base,
-        files,
-        out,
-        line,
-        block.as_mut_slice(),
-    )
+    make_chosen(rt, asked, &base, files, out, line, block.as_mut_slice())
 }
 
 // Makes the pages of the games of a base that are asked for.
 fn make_chosen<F: Files, K: Sink>(
     rt: &HostRuntime,
-    wanted: &Wanted<'_>,
-    query: &Option<HeadQuery>,
+    asked: &Asked<'_>,
     base: &Base,
     files: &mut F,
     out: &mut K,
@@ -129,10 +144,11 @@ fn make_chosen<F: Files, K: Sink>(
 ) -> Result<(), End>
     requires sound { IsSound base.now }
     requires within { AreWithin (F.seen files.old).known (extents_of base.now) }
+    requires end { base.now.end ≤ (F.seen files.old).known }
     requires room { length block.old ≡ 131072 }
 {
-    match choose(rt.alloc(), out, base, query) {
-        Ok(games) => make_pages(rt, wanted, base, &games, files, out, line, block),
+    match choose(rt.alloc(), out, base, &asked.query) {
+        Ok(games) => make_pages(rt, asked, base, &games, files, out, line, block),
         Err(error) => Err(error),
     }
 }
@@ -168,10 +184,10 @@ fn say_opened<K: Sink>(alloc: Global, out: &mut K, games: u32, mended: u32) -> R
     )
 }
 
-// Makes the folder, counts, and writes the pages.
+// Begins the folder, counts, and writes the pages.
 fn make_pages<F: Files, K: Sink>(
     rt: &HostRuntime,
-    wanted: &Wanted<'_>,
+    asked: &Asked<'_>,
     base: &Base,
     games: &Filter,
     files: &mut F,
@@ -182,12 +198,13 @@ fn make_pages<F: Files, K: Sink>(
     requires games { length games.now ≡ length base.now.entries }
     requires sound { IsSound base.now }
     requires within { AreWithin (F.seen files.old).known (extents_of base.now) }
+    requires end { base.now.end ≤ (F.seen files.old).known }
     requires room { length block.old ≡ 131072 }
 {
     let alloc = rt.alloc();
-    let folder = Folder::make(rt, alloc, wanted.folder)?;
-    let (book, least) = read_book(alloc, base, games, &wanted.reach, files, block)?;
-    let written = write_book(alloc, &folder, wanted, base, &book, line);
+    asked.folder.begin()?;
+    let (book, least) = read_book(alloc, base, games, &asked.wanted.reach, files, block)?;
+    let written = write_book(alloc, asked, base, &book, files, line, block);
     if written.is_err() {
         return written;
     }
@@ -195,16 +212,32 @@ fn make_pages<F: Files, K: Sink>(
 }
 
 // Writes the pages.
-fn write_book(
+fn write_book<F: Files>(
     alloc: Global,
-    folder: &Folder<'_>,
-    wanted: &Wanted<'_>,
+    asked: &Asked<'_>,
     base: &Base,
     book: &Book,
+    files: &mut F,
     line: &ProgressLine<'_>,
-) -> Result<(), End> {
-    let title = title(alloc, wanted.base, wanted.only)?;
-    write_pages(alloc, folder, title.as_str(), base, book, line)
+    block: &mut [u8],
+) -> Result<(), End>
+    requires end { base.now.end ≤ (F.seen files.old).known }
+    requires room { length block.old ≡ 131072 }
+{
+    let folder = &asked.folder;
+    let title = title(alloc, asked.wanted.base, asked.wanted.only)?;
+    let order = Order::of(alloc, book)?;
+    let mut site = Site::new(
+        alloc,
+        title.as_bytes(),
+        book,
+        &order,
+        &asked.openings,
+        asked.wanted.below,
+    )?;
+    let first = write_pages(alloc, folder, &mut site, base, book, &order, line)?;
+    write_games(alloc, folder, &site, base, book, files, block)?;
+    finish(alloc, folder, book, first.as_slice())
 }
 
 // Says how many pages there are, and how many games reach each at least.
@@ -217,6 +250,7 @@ fn open<F: Files>(alloc: Global, files: &mut F, block: &mut [u8]) -> Result<(Bas
     requires room { length block.old ≡ 131072 }
     ensures sound { IfOk result (λ opened. IsSound opened.0) }
     ensures within { IfOk result (λ opened. AreWithin (F.seen files.new).known (extents_of opened.0)) }
+    ensures end { IfOk result (λ opened. opened.0.end ≤ (F.seen files.new).known) }
     ensures room { length block.new ≡ 131072 }
 {
     match Base::open_base(alloc, files, false, false, block) {
@@ -238,6 +272,8 @@ fn read_book<F: Files>(
     requires sound { IsSound base.now }
     requires within { AreWithin (F.seen files.old).known (extents_of base.now) }
     requires room { length block.old ≡ 131072 }
+    ensures unchanged { F.seen files.new ≡ F.seen files.old }
+    ensures room { length block.new ≡ 131072 }
 {
     let found = match find_boards(alloc, base, games, reach, files, block) {
         Ok(found) => found,
@@ -264,6 +300,7 @@ fn told(rt: &HostRuntime, end: &End) -> ExitCode {
     let _ = match end {
         End::BadBase(fault) => eprintln!(rt; "{line}{fault}"),
         End::Changed(game) => eprintln!(rt; "{line}{game}"),
+        End::BadName(number) => eprintln!(rt; "{line}{number}"),
         _ => eprintln!(rt; "{line}"),
     };
     ExitCode::from(end.exit_code())

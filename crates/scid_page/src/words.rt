@@ -1,6 +1,7 @@
 //! The words that the program is run with.
 ghost use Rattle.std.specs.Prelude.{◌≤◌, IfSome};
 
+use crate::folder::Existing;
 use book_pages::{DEEPEST, Reach};
 use cell_core::{Colour, PackedBoard, pack};
 use chess_laws::Position;
@@ -19,6 +20,11 @@ pub struct Wanted<'a> {
     pub reach: Reach,
     /// The items of a search of heads, where not all games count.
     pub only: Option<&'a str>,
+    /// The side that stands below on the boards.
+    pub below: Colour,
+    /// The file of the names of openings.
+    pub names: Option<&'a str>,
+    pub existing: Existing,
 }
 
 // What some words have said so far.
@@ -30,11 +36,15 @@ struct Said<'a> {
     least: Option<u32>,
     start: Option<PackedBoard>,
     only: Option<&'a str>,
+    below: Option<Colour>,
+    names: Option<&'a str>,
+    existing: Option<Existing>,
 }
 
 /// What the words ask for, where they are the name of a base and then that of a folder, and among them each at most once `--depth` and a
-/// number up to 40, `--least` and a number from 1 on, `--only` and the items of a search of heads, which are not read here, and `--from`
-/// with a board and a side.
+/// number up to 40, `--least` and a number from 1 on, `--only` and the items of a search of heads, which are not read here, `--from` with a
+/// board and a side, `--side` and `white` or `black`, and `--names` and the name of a file, and
+/// `--replace`.
 pub fn words_read(words: &[String]) -> Option<Wanted<'_>> {
     let Some(said) = said_by(words) else {
         return None;
@@ -48,6 +58,9 @@ pub fn words_read(words: &[String]) -> Option<Wanted<'_>> {
             least: said.least.unwrap_or(LEAST),
         },
         only: said.only,
+        below: said.below.unwrap_or(Colour::White),
+        names: said.names,
+        existing: said.existing.unwrap_or(Existing::Refuse),
     })
 }
 
@@ -60,6 +73,9 @@ fn said_by(words: &[String]) -> Option<Said<'_>> {
         least: None,
         start: None,
         only: None,
+        below: None,
+        names: None,
+        existing: None,
     };
     let mut rest = words;
     for _word in 0..words.len() {
@@ -85,6 +101,16 @@ impl<'a> Said<'a> {
         }
         if word == "--from" {
             return self.take_start(behind);
+        }
+        if word == "--side" {
+            return self.take_side(behind);
+        }
+        if word == "--names" {
+            return self.take_names(behind);
+        }
+        if word == "--replace" {
+            put(&mut self.existing, Existing::Replace)?;
+            return Some(behind);
         }
         self.take_name(word)?;
         Some(behind)
@@ -122,6 +148,25 @@ impl<'a> Said<'a> {
         let (side, behind) = rest.split_first()?;
         let start = board_of(board.as_str(), side.as_str())?;
         put(&mut self.start, start)?;
+        Some(behind)
+    }
+
+    // Takes the side that stands below.
+    fn take_side(&mut self, words: &'a [String]) -> Option<&'a [String]> {
+        let (word, behind) = words.split_first()?;
+        let side = match word.as_str() {
+            "white" => Colour::White,
+            "black" => Colour::Black,
+            _ => return None,
+        };
+        put(&mut self.below, side)?;
+        Some(behind)
+    }
+
+    // Takes the file of the names of openings.
+    fn take_names(&mut self, words: &'a [String]) -> Option<&'a [String]> {
+        let (word, behind) = words.split_first()?;
+        put(&mut self.names, word.as_str())?;
         Some(behind)
     }
 

@@ -6,7 +6,7 @@ use Rattle.shell_session.specs.declared.status.Status.TheVariants.{Done, Usage, 
 -- The line for a status, of a bad base and of a changed game its beginning; none for a session that is done.
 abbrev pub line_of : Status → List ℕ
 line_of Done = codes ""
-line_of Usage = codes "usage: scid_shell [--create] [--strict] [--desk] BASE"
+line_of Usage = codes "usage: scid_shell [--create] [--strict] [--desk] BASE (--help tells more)"
 line_of (BadBase fault) = codes "bad base: "
 line_of ReadFault = codes "read fault"
 line_of WriteFault = codes "write fault"

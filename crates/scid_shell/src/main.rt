@@ -7,21 +7,20 @@ ghost use Rattle.shell_session.specs.Stops.{status_of};
 ghost use Rattle.shell_session.specs.declared.status.Status.TheVariants as done;
 
 mod messages;
-#[cfg(test)]
-mod tests;
 
 use base_files::DeviceError;
-use messages::{HELP, VERSION, message};
+use messages::{CREATE, HELP, NO_ENDING, VERSION, message};
 use shell_session::{Status, session};
 use std::alloc::AllocError;
-use std::io::ErrorKind;
+use std::io::{ErrorKind, IsTerminal};
 use std::process::ExitCode;
-use std::{env, io};
-use std_devices::{DiskFiles, StdSink, StdSource};
+use std::{env, fs, io};
+use std_devices::{DiskFiles, Shown, StdSink, StdSource, hold_standard_streams};
 use tree_live::{TableView, TreeView};
 use watched_devices::{ProgressLine, Watched};
 
 fn main(rt: HostRuntime) -> ExitCode {
+    hold_standard_streams(&rt);
     match words(&rt) {
         Ok(words) => answer(&rt, words.as_slice()),
         Err(status) => end(&rt, status),
@@ -42,7 +41,41 @@ fn answer(rt: &HostRuntime, words: &[String]) -> ExitCode {
     match words {
         [word] if word.as_str() == "--help" => end(rt, printed(print!(rt; "{HELP}"))),
         [word] if word.as_str() == "--version" => end(rt, printed(print!(rt; "{VERSION}"))),
-        _ => end(rt, run(rt, words).unwrap_or(Status::Memory)),
+        _ => {
+            let status = run(rt, words).unwrap_or(Status::Memory);
+            if let Status::FilesFault = status {
+                advise(rt, words);
+            }
+            end(rt, status)
+        }
+    }
+}
+
+/// Says what to type where the base has the name of a file, or is not there.
+fn advise(rt: &HostRuntime, words: &[String]) {
+    let Some(base) = words.iter().find(|word| !word.starts_with("--")) else {
+        return;
+    };
+    let _ = match base.strip_suffix(".si4") {
+        Some(name) => {
+            let name = Shown::new(name, rt.stderr().is_terminal());
+            eprintln!(rt; "{NO_ENDING}{name}")
+        }
+        None if is_absent(rt, base) => eprintln!(rt; "{CREATE}"),
+        None => Ok(()),
+    };
+}
+
+/// Whether there is no index of this base, nor one that was set aside.
+fn is_absent(rt: &HostRuntime, base: &str) -> bool {
+    is_no_file(rt, base, ".si4") && is_no_file(rt, base, ".si4.old")
+}
+
+/// Whether there is no file of this base with this ending.
+fn is_no_file(rt: &HostRuntime, base: &str, ending: &str) -> bool {
+    match format!(in rt.alloc(); "{base}{ending}") {
+        Ok(path) => matches!(fs::exists(rt, path.as_str()), Ok(false)),
+        Err(_) => false,
     }
 }
 

@@ -27,13 +27,14 @@ nothing. Words stand between spaces and tabs; a quoted part keeps its spaces.
                      with its first such ply; they are the filter from then on
   search OP header ITEM ..
                      the games whose head has each item, as `white=Reti` or
-                     `year=1900..1910`
+                     `year=1900..1910`, by the keys below
   search OP position MODE BOARD SIDE [vars]
                      the games that reach a position which has in common with
                      a board what MODE says: `exact`, `pawns`, `files` or
                      `material`; with `vars` in their variations too
   search OP material ITEM ..
-                     the games that have such counts of men, as `wq=1..1`
+                     the games that have such counts of men, as `wq=1..1`, by
+                     the keys below
   reset              all games into the filter
   clear              none
   negate             those that are out, and no others
@@ -78,10 +79,26 @@ from 0. OP is `ignore` for a search of all games, `and` for one of those of the
 filter, `or` for one of the others, which come to it. A line that is no command
 gives a line that begins with `error: `, and the script goes on.
 
+Keys of header: white, black, player, event, site and round with what the name
+begins with; result=1-0 (0-1, 1/2-1/2, *); year, welo, belo and plies with a
+span as 2000..2010; eco=B10..B19; deleted=yes (no); mark=LETTER.
+Keys of material: wq wr wb wn wp bq br bb bn bp with a span of counts, as 0..2;
+ply with a span of plies; streak=PLIES, so many in a row; swap=yes, also with
+the colours exchanged.
+
+A base is changed only where its file system has locks; else copy it to another
+disk. What a run left that was broken off, `scid_mend --back BASE` puts right.
+
 Exit status: 0 done, 1 usage, 2 bad base, 3 read fault, 4 write fault, 5 files
 fault, 6 changed game, 7 input too long, 8 out of memory. What it was is told
 on standard error.
 ";
+
+/// What to type where the base was named as its file is.
+pub const NO_ENDING: &str = "a base is named without the ending of its files: ";
+
+/// What to type where there is no such base.
+pub const CREATE: &str = "there is no base of this name; --create makes one";
 
 /// The answer to `--version`.
 pub const VERSION: &str = "scid_shell 0.1.0\n";
@@ -93,7 +110,8 @@ pub fn message(status: &Status) -> &'static str
 {
     match status {
         Status::Done => "",
-        Status::Usage => "usage: scid_shell [--create] [--strict] [--desk] BASE",
+        Status::Usage =>
+            "usage: scid_shell [--create] [--strict] [--desk] BASE (--help tells more)",
         Status::BadBase(_) => "bad base: ",
         Status::ReadFault => "read fault",
         Status::WriteFault => "write fault",

@@ -1,15 +1,14 @@
 -- Laws of scripts: a line is read by its beginning alone, and what bytes say in front of others.
-use Rattle.std.proofs.Common.{if◌then◌else◌, ◌⊎◌, inl, inr, Ok, Err, ◌≡◌, ◌≤◌, ◌<◌, ◌+◌, ◌-◌, ◌==◌, ℕ, zero, suc, Bool, true, false, ◌||◌, cond, nat_lt, List, [], ◌∷◌, ◌++◌, length, take, drop, Option, Some, None, option_map, slice_index_or, refl, sym, ap, ◌∙◌, arith, append_assoc, append-nil, min}
+use Rattle.std.proofs.Common.{if◌then◌else◌, ◌⊎◌, inl, inr, Ok, Err, ◌≡◌, ◌≤◌, ◌<◌, ◌+◌, ◌-◌, ◌==◌, ℕ, zero, suc, Bool, true, false, cond, nat_lt, List, [], ◌∷◌, ◌++◌, length, take, drop, Option, Some, None, option_map, slice_index_or, refl, sym, ap, ◌∙◌, arith, append_assoc, append-nil, min}
 use Rattle.std.specs.List.{position_or_len}
-use Rattle.std.proofs.lemmas.Bool.{eqb-true}
 use Rattle.std.proofs.lemmas.List.{drop-take, take_all, length-take, length-take-le}
 use Prim.Native.Nat.compare
 use Rattle.script_text.specs.declared.command.Command.TheVariants.{Nothing}
-use Rattle.script_text.specs.declared.fault.ScriptFault.TheVariants.{TooLong, Unknown}
+use Rattle.script_text.specs.declared.fault.ScriptFault.TheVariants.{TooLong}
 use Rattle.script_text.specs.Reading.{reading, shorn, is_remark}
 use Rattle.script_lines.specs.Bytewise.{script_from, with_byte}
 use Rattle.script_text.specs.Tasks.{Order}
-use Rattle.script_lines.specs.Clients.{Clients, Tagged, desk_line, line_of, named, said, tagged_task}
+use Rattle.script_lines.specs.Clients.{Clients, Tagged, desk_line, line_of, named, said, tagged_task, unclaimed}
 use Rattle.script_lines.specs.Script.{Script, script}
 use Rattle.script_lines.specs.Bodies.{feed_at}
 use Rattle.script_lines.specs.Reading.{grown, led_on, most_kept}
@@ -54,29 +53,6 @@ reading_kept most line enough = elim (kept_either most line) [
 
 -- ---- what is kept of a line
 
-not_none : (n : ℕ) (test : Bool) → (n == 0) ≡ test → 0 < n → (n == 0) ≡ false
-not_none n true is some = let none : n ≡ 0 = eqb-true n 0 is in absurd (omega (arith, none, some))
-not_none n false is some = is
-
--- Of two bytes one stays where a carriage return goes.
-not_empty : (line : List ℕ) → 2 ≤ length line → (length (shorn line) == 0) ≡ false
-not_empty line more =
-    let h : length line ≤ length (shorn line) + 1 = shorn_length line in
-    not_none (length (shorn line)) (length (shorn line) == 0) refl (omega (arith, h, more))
-
-empty_kept : (line : List ℕ) → (length (shorn (take most_kept line)) == 0) ≡ (length (shorn line) == 0)
-empty_kept [] = refl
-empty_kept (byte ∷ []) = refl
-empty_kept (byte ∷ next ∷ line) = not_empty (take most_kept (byte ∷ next ∷ line)) (omega arith) ∙ sym (not_empty (byte ∷ next ∷ line) (omega arith))
-
-abbrev is_idle : List ℕ → Bool
-is_idle line = is_remark line || (length (shorn line) == 0)
-
-idle_kept : (line : List ℕ) → is_idle (take most_kept line) ≡ is_idle line
-idle_kept line =
-    ap (λ (test : Bool). test || (length (shorn (take most_kept line)) == 0)) (remark_kept most_kept line (omega arith))
-    ∙ ap (λ (test : Bool). is_remark line || test) (empty_kept line)
-
 named_kept : (line : List ℕ) → named (take most_kept line) ≡ named line
 unfolding named
 named_kept [] = refl
@@ -85,7 +61,7 @@ named_kept (sign ∷ digit ∷ []) = refl
 named_kept (sign ∷ digit ∷ blank ∷ line) = refl
 
 desk_kept : (client : Option ℕ) (line : List ℕ) → desk_line client (take most_kept line) ≡ desk_line client line
-desk_kept None line = ap (λ (test : Bool). said None (if test then Ok Nothing else Err Unknown)) (idle_kept line)
+desk_kept None line = ap (λ (o : Order). said None (unclaimed o)) (reading_kept most_kept line (omega arith))
 desk_kept (Some client) line =
     ap (λ (l : List ℕ). said (Some client) (reading l)) (drop-take 3 65538 line) ∙ ap (λ (o : Order). said (Some client) o) (reading_kept 65538 (drop 3 line) (omega arith))
 

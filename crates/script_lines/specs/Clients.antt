@@ -1,8 +1,8 @@
 -- What a line of a script says, who says it, and when the last client has ended. A script has one client, whose lines stand as they are, or it is
 -- said at a desk of four, where each line begins with its client: `@0 `, `@1 `, `@2 ` or `@3 `. This project's own.
-use Rattle.std.specs.Prelude.{ℕ, ◌-◌, ◌==◌, nat_le, nat_lt, Bool, true, false, ◌&&◌, ◌||◌, not, if◌then◌else◌, List, [], ◌∷◌, length, drop, slice_get, slice_set, unwrap_or, Option, Some, None, is_some, option_map, Ok, Err}
+use Rattle.std.specs.Prelude.{ℕ, ◌-◌, ◌==◌, nat_le, nat_lt, Bool, true, false, ◌&&◌, not, if◌then◌else◌, List, [], ◌∷◌, drop, slice_get, slice_set, unwrap_or, Option, Some, None, is_some, option_map, Ok, Err}
 use Rattle.std.specs.List.{list_all}
-use Rattle.script_text.specs.Reading.{is_remark, reading, shorn}
+use Rattle.script_text.specs.Reading.{reading}
 use Rattle.script_text.specs.declared.command.Command.TheVariants.{Nothing, Quit}
 use Rattle.script_text.specs.declared.fault.ScriptFault.TheVariants.{Unknown}
 use Rattle.script_text.specs.Tasks.{Order, Task, task}
@@ -24,10 +24,15 @@ unfoldable pub named : List ℕ → Option ℕ
 named (sign ∷ digit ∷ blank ∷ line) = if (sign == 64) && (blank == 32) && nat_le 48 digit && nat_lt digit 52 then Some (digit - 48) else None
 named _ = None
 
--- A line at a desk. The bytes that name its client are not counted. One that names none does nothing where it is empty or a remark.
+-- What a line says that no client says, by how it reads alone: nothing where it has no word or is a remark, and else no known command.
+abbrev pub unclaimed : Order → Order
+unclaimed (Ok Nothing) = Ok Nothing
+unclaimed _ = Err Unknown
+
+-- A line at a desk. The bytes that name its client are not counted.
 abbrev pub desk_line : Option ℕ → List ℕ → Line
 desk_line (Some client) line = said (Some client) (reading (drop 3 line))
-desk_line None line = said None (if is_remark line || (length (shorn line) == 0) then Ok Nothing else Err Unknown)
+desk_line None line = said None (unclaimed (reading line))
 
 -- What a line says: at a desk, or of the one client.
 unfoldable pub line_of : Bool → List ℕ → Line

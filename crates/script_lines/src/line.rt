@@ -1,20 +1,20 @@
 //! What a line of a script says, and who says it.
-ghost use Rattle.std.specs.Prelude.{◌≡◌, ◌≤◌, ◌<◌, ◌-◌, ◌==◌, nat_le, nat_lt, ◌&&◌, ◌||◌, if◌then◌else◌, length, Some, None, IfOk, IfErr, IfSome, IsSome, option_map};
-ghost use Rattle.script_text.specs.Reading.{is_remark, reading, shorn};
+ghost use Rattle.std.specs.Prelude.{◌≡◌, ◌≤◌, ◌<◌, ◌-◌, nat_le, nat_lt, ◌&&◌, if◌then◌else◌, length, Some, None, IfOk, IfErr, IfSome, IsSome, option_map};
+ghost use Rattle.script_text.specs.Reading.{reading};
 ghost use Rattle.script_text.specs.Sound.{IsSoundLine};
 ghost use Rattle.script_text.specs.Tasks.{body_word};
-ghost use Rattle.script_lines.specs.Clients.{desk_line, is_quit, line_of, named};
+ghost use Rattle.script_lines.specs.Clients.{is_quit, line_of, named, unclaimed};
 
 use crate::reader::ReadError;
 use cell_core::Text;
-use script_text::{Command, CommandError, ScriptFault, read_command, shorn};
+use script_text::{Command, CommandError, ScriptFault, read_command};
 use std::alloc::Global;
 
 /// The command that a line says, or its first fault.
 pub type Order = Result<Command, ScriptFault>;
 
-/// A line of a script: the client who says it, from 0 to 3, if one does, and what it says. Without a client a line that is empty or a remark
-/// is `Nothing`, and any other unknown.
+/// A line of a script: the client who says it, from 0 to 3, if one does, and what it says. Without a client a line that has no word or is a
+/// remark is `Nothing`, and any other is unknown.
 #[derive(Drop)]
 pub struct Line {
     pub client: Option<u8>,
@@ -42,7 +42,7 @@ pub(crate) fn read_line(alloc: Global, tagged: bool, line: &[u8]) -> Result<Line
         }),
         None => Ok(Line {
             client: None,
-            order: without_client(line),
+            order: unclaimed(read_order(alloc, line)?),
         }),
     }
 }
@@ -60,24 +60,13 @@ fn read_order(alloc: Global, line: &[u8]) -> Result<Order, ReadError>
     }
 }
 
-// What a line says that names no client.
-fn without_client(line: &[u8]) -> Order
-    ensures order { result ≡ (desk_line None line.now).order }
+// What a line says that names no client, by how it reads alone.
+fn unclaimed(order: Order) -> Order
+    ensures unclaimed { result ≡ unclaimed order }
 {
-    if is_idle(line) {
-        Ok(Command::Nothing)
-    } else {
-        Err(ScriptFault::Unknown)
-    }
-}
-
-// Whether such a line does nothing: it is empty or a remark.
-fn is_idle(line: &[u8]) -> bool
-    ensures idle { result ≡ (is_remark line.now || (length (shorn line.now) == 0)) }
-{
-    match line {
-        [b'#', ..] => true,
-        _ => shorn(line).is_empty(),
+    match order {
+        Ok(Command::Nothing) => Ok(Command::Nothing),
+        _ => Err(ScriptFault::Unknown),
     }
 }
 

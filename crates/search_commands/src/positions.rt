@@ -12,7 +12,7 @@ ghost use Rattle.pos_search.specs.Searching.{are_read};
 ghost use Rattle.sig_index.specs.Costs.{price_by};
 ghost use Rattle.sig_index.specs.Games.{AreWithin, Holds};
 ghost use Rattle.search_commands.specs.Searching.{search_position_work, find_work};
-ghost use Rattle.shell_state.specs.Ends.{IsDevice};
+ghost use Rattle.shell_state.specs.Ends.{IsDevice, Unsaid};
 ghost use Rattle.shell_state.specs.Stands.{Stands, Sound, Broken, WhyHalt, Asks, AsksAll};
 ghost use Rattle.shell_state.specs.State.{State};
 ghost use Rattle.shell_state.specs.Work.{works};
@@ -51,6 +51,7 @@ pub fn find_games<F: Files>(
 }
 
 /// search OP position MODE BOARD SIDE, and the same with vars
+#[tactic(auto, using(shell_state::proofs::Causing::unsaid_without))]
 pub fn search_position<F: Files, K: Sink>(
     machine: &mut Machine,
     files: &mut F,
@@ -64,6 +65,7 @@ pub fn search_position<F: Files, K: Sink>(
     ensures unchanged { F.seen files.new ≡ F.seen files.old }
     ensures asks { Asks machine.old (search_position_work op query.now) (F.asked files.old) (F.asked files.new) }
     ensures asked { OnOk result (AsksAll machine.old (search_position_work op query.now) (F.asked files.old) (F.asked files.new)) }
+    ensures unsaid { IfErr result (λ e. Unsaid e (K.taken out.old) (K.taken out.new)) }
     ensures none_lost { NoneLost (K.taken out.old) (K.taken out.new) }
     ensures causes { Causes WhyHalt result (counts (F.faults files.old) 0 (K.faults out.old)) (counts (F.faults files.new) 0 (K.faults out.new)) }
 {

@@ -18,7 +18,7 @@ ghost use Rattle.tree_rows.specs.MoveText.{IsKey};
 ghost use Rattle.tree_rows.specs.Rows.{AreRows, rows_of};
 ghost use Rattle.tree_rows.specs.declared.hit.GameHit.{GameHit as Hit};
 ghost use Rattle.search_commands.specs.Trees.{hit_if_in, listed_hit, tree_hits, tree_of, tree_work};
-ghost use Rattle.shell_state.specs.Ends.{IsDevice};
+ghost use Rattle.shell_state.specs.Ends.{IsDevice, Unsaid};
 ghost use Rattle.shell_state.specs.Slots.{hit_of_game};
 ghost use Rattle.shell_state.specs.Stands.{Stands, Sound, Broken, WhyHalt, Asks, AsksAll};
 ghost use Rattle.shell_state.specs.State.{State};
@@ -36,6 +36,7 @@ use std::alloc::{AllocError, Global};
 use tree_rows::{GameHit, Rows, lines};
 
 /// tree BOARD SIDE
+#[tactic(auto, using(shell_state::proofs::Causing::unsaid_without))]
 pub fn tree<F: Files, K: Sink>(
     alloc: Global,
     machine: &mut Machine,
@@ -50,6 +51,7 @@ pub fn tree<F: Files, K: Sink>(
     ensures unchanged { F.seen files.new ≡ F.seen files.old }
     ensures asks { Asks machine.old (tree_work board.now side) (F.asked files.old) (F.asked files.new) }
     ensures asked { OnOk result (AsksAll machine.old (tree_work board.now side) (F.asked files.old) (F.asked files.new)) }
+    ensures unsaid { IfErr result (λ e. Unsaid e (K.taken out.old) (K.taken out.new)) }
     ensures none_lost { NoneLost (K.taken out.old) (K.taken out.new) }
     ensures causes { Causes WhyHalt result (counts (F.faults files.old) 0 (K.faults out.old)) (counts (F.faults files.new) 0 (K.faults out.new)) }
 {

@@ -1,13 +1,17 @@
-//! Tests alone: sessions over devices in memory that fail at each call, or change, and over views that refuse a row.
+//! Tests alone: sessions over devices in memory, four clients on one base, and the lines of scripts.
 #![tactic(auto)]
 
 #[cfg(test)]
 mod base;
 #[cfg(test)]
-mod desk_tests;
+mod change_tests;
 #[cfg(test)]
 mod file_tests;
 #[cfg(test)]
-mod stream_tests;
+mod line_tests;
+#[cfg(test)]
+mod ready;
+#[cfg(test)]
+mod seat_tests;
 #[cfg(test)]
 mod view_tests;

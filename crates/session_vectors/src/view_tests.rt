@@ -1,5 +1,5 @@
 //! A slot without a view, and one whose view is watched, refuses a row, or is let go.
-use super::base::{Run, files_of, run_over, run_over_views};
+use super::base::{files_of, run_over, run_over_views};
 use shell_session::Status;
 use std::alloc::{AllocError, Global};
 use std::test::Fail;
@@ -32,7 +32,7 @@ type Session = (
     Option<(usize, u64)>,
 );
 
-const DONE: [Session; 4] = [
+static DONE: [Session; 4] = [
     (
         WATCH,
         None,
@@ -60,7 +60,7 @@ added 1\nadded 2\nimported 2 refused 0\ndeleted 1\ncompacted 3 to 2\n",
     ),
 ];
 
-const OUT_OF_MEMORY: [Session; 3] = [
+static OUT_OF_MEMORY: [Session; 3] = [
     (WATCH, Some(0), b"base 1 games 0 mended\n", Some((0, 1))),
     (
         WATCH_AND_IMPORT,
@@ -78,14 +78,13 @@ const OUT_OF_MEMORY: [Session; 3] = [
 
 const NO_VIEW: &[u8] = b"base 1 games 0 mended\nerror: no view 0\n";
 
-fn run_of(script: &[u8]) -> Run<'_> {
-    Run {
-        script,
-        input: &[],
-        out: &[],
-        strict: false,
-        desk: false,
-    }
+// The rows, of which the proofs of the tests have to know nothing.
+fn done() -> &'static [Session] {
+    &DONE
+}
+
+fn out_of_memory() -> &'static [Session] {
+    &OUT_OF_MEMORY
 }
 
 /// How many rows the one view shows and how many changes it was told, if it is there.
@@ -103,13 +102,13 @@ fn ends(alloc: Global, session: &Session, wanted: Status) -> Result<bool, AllocE
     let view: Box<dyn TreeView> = Box::new(alloc, TableView::new(Vec::new(alloc), refuse))?;
     views.push(Some(view))?;
     let mut files = files_of(alloc, 1, &[])?;
-    let (status, written) = run_over_views(alloc, &mut files, &run_of(script), &mut views)?;
+    let (status, written) = run_over_views(alloc, &mut files, script, &mut views)?;
     Ok(status == wanted && written.as_slice() == text && shown(views.as_slice()) == view_left)
 }
 
 #[test]
 fn a_view_shows_its_rows_until_it_is_let_go(rt: HostRuntime) -> Result<(), Fail> {
-    for session in &DONE {
+    for session in done() {
         assert!(rt; ends(rt.alloc(), session, Status::Done)?);
     }
     Ok(())
@@ -117,7 +116,7 @@ fn a_view_shows_its_rows_until_it_is_let_go(rt: HostRuntime) -> Result<(), Fail>
 
 #[test]
 fn ends_where_a_view_refuses_a_row(rt: HostRuntime) -> Result<(), Fail> {
-    for session in &OUT_OF_MEMORY {
+    for session in out_of_memory() {
         assert!(rt; ends(rt.alloc(), session, Status::Memory)?);
     }
     Ok(())
@@ -126,12 +125,12 @@ fn ends_where_a_view_refuses_a_row(rt: HostRuntime) -> Result<(), Fail> {
 #[test]
 fn a_slot_without_a_view_shows_no_tree(rt: HostRuntime) -> Result<(), Fail> {
     let mut files = files_of(rt.alloc(), 1, &[])?;
-    let (status, written) = run_over(rt.alloc(), &mut files, &run_of(WATCH))?;
+    let (status, written) = run_over(rt.alloc(), &mut files, WATCH)?;
     assert!(rt; status == Status::Done);
     assert!(rt; written.as_slice() == NO_VIEW);
     let mut views = Vec::new(rt.alloc());
     views.push(None)?;
-    let (status, written) = run_over_views(rt.alloc(), &mut files, &run_of(WATCH), &mut views)?;
+    let (status, written) = run_over_views(rt.alloc(), &mut files, WATCH, &mut views)?;
     assert!(rt; status == Status::Done);
     assert!(rt; written.as_slice() == NO_VIEW);
     assert!(rt; views.len() == 1);

@@ -1,5 +1,5 @@
 -- The plain machine over the tasks of a script, its lines with their bodies: what each command does. This project's own.
-use Rattle.std.specs.Prelude.{ℕ, Bool, List, [], Option, IfSome, Ok, Err, length}
+use Rattle.std.specs.Prelude.{ℕ, Bool, true, false, List, [], Option, IfSome, Ok, Err, length}
 use Rattle.base_files.specs.Seen.{Seen}
 use Rattle.base_core.specs.Base.{Base}
 use Rattle.command_runs.specs.Plain.{Plain}
@@ -93,6 +93,13 @@ order_writes order = (order_work all_slots order []).writes
 
 abbrev pub order_left : Order → Option (Base → Base)
 order_left order = (order_work all_slots order []).left
+
+-- Whether a line writes while it works; the text of every other one goes out when its work is done.
+abbrev pub writes_early : Order → Bool
+writes_early (Ok (Import word)) = true
+writes_early (Ok Export) = true
+writes_early (Ok (Demo seed games)) = true
+writes_early _ = false
 
 -- What is known of the files where a task was broken off that leaves a base in their place: nothing of its text was written, or they carry what
 -- the state behind it says.

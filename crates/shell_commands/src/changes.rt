@@ -8,10 +8,11 @@ ghost use Rattle.script_text.specs.declared.command.Command.TheVariants.{Demo, I
 ghost use Rattle.intake_commands.specs.Demo.{demo_price};
 ghost use Rattle.intake_commands.specs.Importing.{import_work};
 ghost use Rattle.shell_commands.specs.Parts.{part_of};
-ghost use Rattle.shell_commands.specs.Tasks.{command_work, SettledTask};
+ghost use Rattle.shell_commands.specs.Tasks.{command_work, SettledTask, writes_early};
 ghost use Rattle.shell_commands.specs.Watching.{ViewsDone, touches};
 ghost use Rattle.shell_commands.specs.declared.parts.Part.TheVariants.{Edits, Games};
 ghost use Rattle.shell_state.specs.Carrying.{StillCarry};
+ghost use Rattle.shell_state.specs.Ends.{Unsaid};
 ghost use Rattle.shell_state.specs.Stands.{Asks, Broken, Sound, Stands, WhyHalt};
 ghost use Rattle.shell_state.specs.State.{State};
 ghost use Rattle.shell_state.specs.Work.{works};
@@ -61,6 +62,7 @@ pub(crate) fn serve_import<F: Files, B: Source, K: Sink>(
 }
 
 // Edits games, and shows them before the line for it is written.
+#[tactic(auto, using(shell_state::proofs::Causing::unsaid_without))]
 pub(crate) fn serve_edit<F: Files, B: Source, K: Sink>(
     alloc: Global,
     machine: &mut Machine,
@@ -86,6 +88,7 @@ pub(crate) fn serve_edit<F: Files, B: Source, K: Sink>(
     ensures choices { (F.seen files.new).choices ≡ (F.seen files.old).choices }
     ensures asks { Asks machine.old (command_work all_slots command.now []) (F.asked files.old) (F.asked files.new) }
     ensures same { B.origin body.new ≡ B.origin body.old }
+    ensures unsaid { IfErr result (λ e. Unsaid e (K.taken out.old) (K.taken out.new)) }
     ensures none_lost { NoneLost (K.taken out.old) (K.taken out.new) }
     ensures causes { Causes WhyHalt result (counts (F.faults files.old) (B.faults body.old) (K.faults out.old)) (counts (F.faults files.new) (B.faults body.new) (K.faults out.new)) }
 {
@@ -125,6 +128,7 @@ fn edit_line<F: Files, B: Source>(
 }
 
 // Does what another such command says, and then shows what has changed.
+#[tactic(auto, using(shell_state::proofs::Causing::unsaid_memory))]
 pub(crate) fn serve_change<F: Files, B: Source, K: Sink>(
     alloc: Global,
     machine: &mut Machine,
@@ -151,6 +155,7 @@ pub(crate) fn serve_change<F: Files, B: Source, K: Sink>(
     ensures asks { Asks machine.old (command_work all_slots command.now []) (F.asked files.old) (F.asked files.new) }
     ensures asks_demo { (s : State) (seed games : ℕ) → Stands machine.old (F.seen files.old) s → command.now ≡ Demo seed games → F.asked files.new ≤ F.asked files.old + demo_price s seed games }
     ensures same { B.origin body.new ≡ B.origin body.old }
+    ensures unsaid { writes_early (Ok command.now) ≡ false → IfErr result (λ e. Unsaid e (K.taken out.old) (K.taken out.new)) }
     ensures none_lost { NoneLost (K.taken out.old) (K.taken out.new) }
     ensures causes { Causes WhyHalt result (counts (F.faults files.old) (B.faults body.old) (K.faults out.old)) (counts (F.faults files.new) (B.faults body.new) (K.faults out.new)) }
 {
@@ -180,6 +185,7 @@ fn change_games<F: Files, B: Source, K: Sink>(
     ensures asks { Asks machine.old (command_work all_slots command.now []) (F.asked files.old) (F.asked files.new) }
     ensures asks_demo { (s : State) (seed games : ℕ) → Stands machine.old (F.seen files.old) s → command.now ≡ Demo seed games → F.asked files.new ≤ F.asked files.old + demo_price s seed games }
     ensures same { B.origin body.new ≡ B.origin body.old }
+    ensures unsaid { writes_early (Ok command.now) ≡ false → IfErr result (λ e. Unsaid e (K.taken out.old) (K.taken out.new)) }
     ensures none_lost { NoneLost (K.taken out.old) (K.taken out.new) }
     ensures causes { Causes WhyHalt result (counts (F.faults files.old) (B.faults body.old) (K.faults out.old)) (counts (F.faults files.new) (B.faults body.new) (K.faults out.new)) }
 {

@@ -9,7 +9,7 @@ ghost use Rattle.shell_commands.specs.Parts.{part_of};
 ghost use Rattle.shell_commands.specs.Tasks.{command_work};
 ghost use Rattle.shell_commands.specs.Watching.{ViewsDone, touches};
 ghost use Rattle.shell_commands.specs.declared.parts.Part.TheVariants.{Searches};
-ghost use Rattle.shell_state.specs.Ends.{IsDevice};
+ghost use Rattle.shell_state.specs.Ends.{IsDevice, Unsaid};
 ghost use Rattle.shell_state.specs.Stands.{Asks, Broken, Sound, Stands, WhyHalt};
 ghost use Rattle.shell_state.specs.State.{State};
 ghost use Rattle.shell_state.specs.Work.{works};
@@ -26,6 +26,7 @@ use tree_live::TreeView;
 use view_commands::Window;
 
 // Does what such a command says, and shows it before its text is written.
+#[tactic(auto, using(shell_state::proofs::Causing::unsaid_without, shell_state::proofs::Causing::unsaid_memory))]
 pub(crate) fn serve_search<F: Files, K: Sink>(
     alloc: Global,
     machine: &mut Machine,
@@ -47,6 +48,7 @@ pub(crate) fn serve_search<F: Files, K: Sink>(
     ensures sound { OnOk result (Sound machine.new (F.seen files.new)) }
     ensures unchanged { F.seen files.new ≡ F.seen files.old }
     ensures asks { Asks machine.old (command_work all_slots command.now []) (F.asked files.old) (F.asked files.new) }
+    ensures unsaid { IfErr result (λ e. Unsaid e (K.taken out.old) (K.taken out.new)) }
     ensures none_lost { NoneLost (K.taken out.old) (K.taken out.new) }
     ensures causes { Causes WhyHalt result (counts (F.faults files.old) 0 (K.faults out.old)) (counts (F.faults files.new) 0 (K.faults out.new)) }
 {

@@ -6,9 +6,10 @@ ghost use Rattle.script_text.specs.Sound.{IsSound, IsSoundLine};
 ghost use Rattle.script_text.specs.Tasks.{task};
 ghost use Rattle.script_text.specs.declared.command.Command.TheVariants.{Demo, Export};
 ghost use Rattle.intake_commands.specs.Demo.{demo_price};
-ghost use Rattle.shell_commands.specs.Tasks.{BrokenTask, command_work, order_left, order_price, order_work, order_writes, SettledTask, tasks};
+ghost use Rattle.shell_commands.specs.Tasks.{BrokenTask, command_work, order_left, order_price, order_work, order_writes, SettledTask, tasks, writes_early};
 ghost use Rattle.shell_commands.specs.Watching.{ViewsDone, touches};
 ghost use Rattle.shell_state.specs.Carrying.{StillCarry};
+ghost use Rattle.shell_state.specs.Ends.{Unsaid};
 ghost use Rattle.shell_state.specs.Stands.{Asks, Broken, Sound, Stands, WhyHalt};
 ghost use Rattle.shell_state.specs.State.{State};
 ghost use Rattle.shell_state.specs.Work.{works};
@@ -34,6 +35,7 @@ pub type Order = Result<Command, ScriptFault>;
 
 /// Does what a line of a user's script says, and writes its text, and keeps the views of his own slots right. Of a line without a body nothing
 /// of `body` is read.
+#[tactic(auto, using(shell_state::proofs::Causing::unsaid_without))]
 pub fn serve<F: Files, B: Source, K: Sink>(
     alloc: Global,
     machine: &mut Machine,
@@ -68,6 +70,9 @@ pub fn serve<F: Files, B: Source, K: Sink>(
     // Where it is broken off the files carry what they carried, or perhaps what `save` saves or `compact` leaves.
     ensures carries { (s : State) → Stands machine.old (F.seen files.old) s → IfErr result (λ _. StillCarry (F.seen files.new) s (order_left order.now)) }
 
+    // Where the files fail nothing of its text was written, unless it writes while it works.
+    ensures unsaid { writes_early order.now ≡ false → IfErr result (λ e. Unsaid e (K.taken out.old) (K.taken out.new)) }
+
     // Where it is one that leaves a base in their place, nothing of its text was written before they carry that.
     ensures settled { (s : State) (text : List ℕ) → Stands machine.old (F.seen files.old) s → B.left body.old ≡ Some text → IfErr result (λ _. SettledTask (F.seen files.new) window s (task order.now text) (K.taken out.old) (K.taken out.new)) }
 
@@ -91,6 +96,7 @@ pub fn serve<F: Files, B: Source, K: Sink>(
 }
 
 // Does what a command says.
+#[tactic(auto, using(shell_state::proofs::Causing::unsaid_without))]
 fn serve_command<F: Files, B: Source, K: Sink>(
     alloc: Global,
     machine: &mut Machine,
@@ -118,6 +124,7 @@ fn serve_command<F: Files, B: Source, K: Sink>(
     ensures asks { Asks machine.old (command_work all_slots command.now []) (F.asked files.old) (F.asked files.new) }
     ensures asks_demo { (s : State) (seed games : ℕ) → Stands machine.old (F.seen files.old) s → command.now ≡ Demo seed games → F.asked files.new ≤ F.asked files.old + demo_price s seed games }
     ensures same { B.origin body.new ≡ B.origin body.old }
+    ensures unsaid { writes_early (Ok command.now) ≡ false → IfErr result (λ e. Unsaid e (K.taken out.old) (K.taken out.new)) }
     ensures none_lost { NoneLost (K.taken out.old) (K.taken out.new) }
     ensures causes { Causes WhyHalt result (counts (F.faults files.old) (B.faults body.old) (K.faults out.old)) (counts (F.faults files.new) (B.faults body.new) (K.faults out.new)) }
 {

@@ -1,5 +1,5 @@
 //! The commands on the slots that show trees.
-ghost use Rattle.std.specs.Prelude.{◌≡◌, ◌+◌, ◌≤◌, ℕ, List, [], Ok, OnOk, length};
+ghost use Rattle.std.specs.Prelude.{◌≡◌, ◌+◌, ◌≤◌, ℕ, List, [], Ok, IfErr, OnOk, length};
 ghost use Rattle.command_runs.specs.Counts.{Causes, counts};
 ghost use Rattle.command_runs.specs.Endings.{NoneLost, Serves};
 ghost use Rattle.script_text.specs.Tasks.{task};
@@ -7,6 +7,7 @@ ghost use Rattle.shell_commands.specs.Parts.{part_of};
 ghost use Rattle.shell_commands.specs.Tasks.{command_work};
 ghost use Rattle.shell_commands.specs.Watching.{ViewsDone, touches};
 ghost use Rattle.shell_commands.specs.declared.parts.Part.TheVariants.{Slots};
+ghost use Rattle.shell_state.specs.Ends.{Unsaid};
 ghost use Rattle.shell_state.specs.Stands.{Asks, Broken, Sound, Stands, WhyHalt};
 ghost use Rattle.shell_state.specs.State.{State};
 ghost use Rattle.shell_state.specs.Work.{works};
@@ -21,6 +22,7 @@ use tree_live::TreeView;
 use view_commands::{Window, unwatch, view, watch};
 
 // Does what such a command of a user says, and writes its line or its text.
+#[tactic(auto, using(shell_state::proofs::Causing::unsaid_without))]
 pub(crate) fn serve_slot<F: Files, K: Sink>(
     alloc: Global,
     machine: &mut Machine,
@@ -41,6 +43,7 @@ pub(crate) fn serve_slot<F: Files, K: Sink>(
     ensures sound { OnOk result (Sound machine.new (F.seen files.new)) }
     ensures unchanged { F.seen files.new ≡ F.seen files.old }
     ensures asks { Asks machine.old (command_work all_slots command.now []) (F.asked files.old) (F.asked files.new) }
+    ensures unsaid { IfErr result (λ e. Unsaid e (K.taken out.old) (K.taken out.new)) }
     ensures none_lost { NoneLost (K.taken out.old) (K.taken out.new) }
     ensures causes { Causes WhyHalt result (counts (F.faults files.old) 0 (K.faults out.old)) (counts (F.faults files.new) 0 (K.faults out.new)) }
 {

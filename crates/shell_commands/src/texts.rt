@@ -6,9 +6,10 @@ ghost use Rattle.script_text.specs.Sound.{IsSound};
 ghost use Rattle.script_text.specs.Tasks.{task};
 ghost use Rattle.script_text.specs.declared.command.Command.TheVariants.{Export};
 ghost use Rattle.shell_commands.specs.Parts.{part_of};
-ghost use Rattle.shell_commands.specs.Tasks.{command_work, SettledTask};
+ghost use Rattle.shell_commands.specs.Tasks.{command_work, SettledTask, writes_early};
 ghost use Rattle.shell_commands.specs.declared.parts.Part.TheVariants.{Texts};
 ghost use Rattle.shell_state.specs.Carrying.{StillCarry};
+ghost use Rattle.shell_state.specs.Ends.{Unsaid};
 ghost use Rattle.shell_state.specs.Stands.{Asks, Broken, Sound, Stands, WhyHalt};
 ghost use Rattle.shell_state.specs.State.{State};
 ghost use Rattle.shell_state.specs.Work.{works};
@@ -29,6 +30,7 @@ use std::alloc::Global;
 use text_commands::{export, info, list, quit, show};
 
 // Does what such a command says, and writes its text.
+#[tactic(auto, using(shell_state::proofs::Causing::unsaid_without))]
 pub(crate) fn write_text<F: Files, K: Sink>(
     alloc: Global,
     machine: &mut Machine,
@@ -47,6 +49,7 @@ pub(crate) fn write_text<F: Files, K: Sink>(
     ensures unchanged { (command_work all_slots command.now []).writes ≡ false → F.seen files.new ≡ F.seen files.old }
     ensures choices { (F.seen files.new).choices ≡ (F.seen files.old).choices }
     ensures asks { Asks machine.old (command_work all_slots command.now []) (F.asked files.old) (F.asked files.new) }
+    ensures unsaid { writes_early (Ok command.now) ≡ false → IfErr result (λ e. Unsaid e (K.taken out.old) (K.taken out.new)) }
     ensures none_lost { NoneLost (K.taken out.old) (K.taken out.new) }
     ensures causes { Causes WhyHalt result (counts (F.faults files.old) 0 (K.faults out.old)) (counts (F.faults files.new) 0 (K.faults out.new)) }
 {

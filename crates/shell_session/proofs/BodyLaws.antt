@@ -46,10 +46,11 @@ use Rattle.script_text.specs.Tasks.{Order, body_word, task}
 use Rattle.script_text.specs.declared.command.Command.TheVariants.{Import, Replace, Eco}
 use Rattle.report_commands.specs.Classifying.{state_by}
 use Rattle.shell_commands.proofs.SlotLaws.{task_stays}
-use Rattle.shell_commands.specs.Tasks.{order_left, tasks}
+use Rattle.shell_commands.specs.Tasks.{order_left, tasks, writes_early}
 use Rattle.intake_commands.specs.Importing.{Intake, intake, item_after, none_taken, state_with, the_new}
 use Rattle.intake_commands.proofs.ByCase.{unless_not_added}
 use Rattle.shell_state.specs.Carrying.{Settled}
+use Rattle.shell_state.specs.Ends.{Unsaid}
 use Rattle.shell_state.specs.Slots.{Slot, slot_at}
 use Rattle.shell_state.specs.Stands.{WhyHalt}
 use Rattle.shell_state.specs.Refusing.{not_added}
@@ -57,16 +58,17 @@ use Rattle.shell_state.specs.State.{Carried, State}
 use Rattle.shell_state.specs.declared.refusing.Refusal.{Refusal}
 use Rattle.shell_state.specs.declared.halt.Halt.{Halt}
 use Rattle.shell_state.specs.declared.halt.Halt.TheVariants as halt
+use Rattle.tree_live.specs.Slots.{in_slot}
 use Rattle.view_commands.specs.declared.window.Window.{Window}
 use Rattle.shell_session.specs.Running.{BehindDone, BodyDone, Finished, GoneOn, Halts, Interrupted, Interrupts, Kept, LastDid, LastDone, LastHalts, Stops, WentOn, WentOut, added, behind_at, last_tasks, said_on, whole_on}
-use Rattle.shell_session.specs.Around.{Around, Lives, price_all, told_all, told_more}
+use Rattle.shell_session.specs.Around.{Around, IsLeftIn, Lives, price_all, told_all, told_more}
 use Rattle.shell_session.specs.Session.{Breaks, WhyStatus}
 use Rattle.shell_session.specs.Stops.{status_in_body, status_of_reading}
 use Rattle.shell_session.specs.declared.status.Status.{Status}
 use Rattle.shell_session.specs.declared.status.Status.TheVariants.{FilesFault, InputTooLong, Memory, ReadFault, WriteFault}
 use Rattle.shell_session.proofs.DeskLaws.{Remains, breaks_by, carries_later, done_so, effect_so}
 use Rattle.shell_session.proofs.PriceLaws.{price_both, price_front}
-use Rattle.shell_session.proofs.ViewLaws.{lives_more, lives_since, none_told}
+use Rattle.shell_session.proofs.ViewLaws.{left_alone, lives_more, lives_since, none_told}
 use Rattle.shell_session.proofs.RunningLaws.{at_front, at_other, end_did, end_stops, front_stops, line_behind, line_last, remains_of}
 
 -- ---- the lines that have bodies
@@ -161,7 +163,7 @@ body_remains line word body held around more d is lives =
     let slots : (desks.after d (tagged_task line body)).slots ≡ d.slots = body_slots line word body d (has_body line.order word is) in
     record {
       carries = carries_later held around.seen d (desks.after d (tagged_task line body)) (line_left d line) (body_carried line word body d (has_body line.order word is)) lives.stands;
-      views = λ k idle other. lives.views.idle k (ap (λ (l : List Slot). slot_at l k) slots ∙ idle);
+      views = λ k other. subst (λ (l : List Slot). IsLeftIn (slot_at l k) (in_slot around.first k) (in_slot around.now k)) slots (left_alone held (told_more around more) (desks.after d (tagged_task line body)) lives k);
     }
 
 -- They leave no base in the place of the files.
@@ -509,28 +511,28 @@ must_stick word reader l b f p l' b' f' r st is rose = none_rose r (subst (λ (n
 
 pub body_halts : (end : Halt) (stuck : Option ReadError) (line : Line) (word ahead : List ℕ) (reader : Reader) (l : Option (List ℕ)) (b f : ℕ) (p : Place) (l' : Option (List ℕ)) (b' f' : ℕ) (d : Desk) (around' : Around) (t t' : Option (List ℕ)) (a a' x x' r k k' : ℕ)
     → p.stuck ≡ stuck → InBody line word ahead reader l b f p l' b' f' → Halted [] (desks.text d (tagged_task line (body_of word true ahead).bytes)) t t'
-    → BrokenLine d (tagged_task line (body_of word true ahead).bytes) end → Remains around' d line → WhyHalt end (counts x r k) (counts x' p.refused k') → a' ≤ a + line_price d line
+    → BrokenLine d (tagged_task line (body_of word true ahead).bytes) end → (writes_early line.order ≡ false → Unsaid end t t') → Remains around' d line → WhyHalt end (counts x r k) (counts x' p.refused k') → a' ≤ a + line_price d line
     → Halts (status_in_body end stuck) around' line d ahead reader.used l' t t' a a'
-body_halts (halt.Device stop.Read) (Some e) line word ahead reader l b f p l' b' f' d around' t t' a a' x x' r k k' is at wrote broken remains why asked =
+body_halts (halt.Device stop.Read) (Some e) line word ahead reader l b f p l' b' f' d around' t t' a a' x x' r k k' is at wrote broken unsaid remains why asked =
     halts_stuck e line word ahead reader l b f p l' b' f' d around' t t' a a' is at wrote remains asked
-body_halts (halt.Device stop.Read) None line word ahead reader l b f p l' b' f' d around' t t' a a' x x' r k k' is at wrote broken remains why asked =
+body_halts (halt.Device stop.Read) None line word ahead reader l b f p l' b' f' d around' t t' a a' x x' r k k' is at wrote broken unsaid remains why asked =
     absurd (must_stick word reader l b f p l' b' f' r at.stands is why)
-body_halts (halt.Device stop.Files) stuck line word ahead reader l b f p l' b' f' d around' t t' a a' x x' r k k' is at wrote broken remains why asked = record {
-  stopped = (body_cut line word ahead d around' t t' FilesFault at.has (record { wrote = wrote; broken = breaks_by _ _ _ _ _ _ broken remains (body_settled around'.seen d line (body_of word true ahead).bytes word t t' at.has) })).0;
+body_halts (halt.Device stop.Files) stuck line word ahead reader l b f p l' b' f' d around' t t' a a' x x' r k k' is at wrote broken unsaid remains why asked = record {
+  stopped = (body_cut line word ahead d around' t t' FilesFault at.has (record { wrote = wrote; broken = breaks_by _ _ _ _ _ _ (broken, λ late. unsaid late refl) remains (body_settled around'.seen d line (body_of word true ahead).bytes word t t' at.has) })).0;
   lines = tt;
   asks = body_paid line word ahead d a a' at.has asked;
 }
-body_halts (halt.Device stop.Write) stuck line word ahead reader l b f p l' b' f' d around' t t' a a' x x' r k k' is at wrote broken remains why asked = record {
+body_halts (halt.Device stop.Write) stuck line word ahead reader l b f p l' b' f' d around' t t' a a' x x' r k k' is at wrote broken unsaid remains why asked = record {
   stopped = (body_cut line word ahead d around' t t' WriteFault at.has (record { wrote = wrote; broken = breaks_by _ _ _ _ _ _ tt remains (body_settled around'.seen d line (body_of word true ahead).bytes word t t' at.has) })).0;
   lines = tt;
   asks = body_paid line word ahead d a a' at.has asked;
 }
-body_halts (halt.Device stop.Memory) stuck line word ahead reader l b f p l' b' f' d around' t t' a a' x x' r k k' is at wrote broken remains why asked = record {
+body_halts (halt.Device stop.Memory) stuck line word ahead reader l b f p l' b' f' d around' t t' a a' x x' r k k' is at wrote broken unsaid remains why asked = record {
   stopped = (body_cut line word ahead d around' t t' Memory at.has (record { wrote = wrote; broken = breaks_by _ _ _ _ _ _ tt remains (body_settled around'.seen d line (body_of word true ahead).bytes word t t' at.has) })).0;
   lines = tt;
   asks = body_paid line word ahead d a a' at.has asked;
 }
-body_halts (halt.Changed game kept found) stuck line word ahead reader l b f p l' b' f' d around' t t' a a' x x' r k k' is at wrote broken remains why asked = absurd broken
+body_halts (halt.Changed game kept found) stuck line word ahead reader l b f p l' b' f' d around' t t' a a' x x' r k k' is at wrote broken unsaid remains why asked = absurd broken
 
 -- Nothing of it was read, since memory ran out.
 pub body_short : (line : Line) (word ahead : List ℕ) (held : DeskHolding) (around : Around) (d : Desk) (used : ℕ) (l t : Option (List ℕ)) (a : ℕ) → body_word line.order ≡ Some word → Lives held around d

@@ -28,7 +28,7 @@ pub record Remains (around : Around) (d : Desk) (line : Line) : Type 0 where
   pub carries : StillCarry around.seen (seen_by d 0) (line_left d line)
   pub views : AreLeftBy around d line
 
-abbrev pub breaks_by : (status : Status) (around' : Around) (t' : Option (List ℕ)) (d : Desk) (next : Tagged) (t : Option (List ℕ)) → BrokenBy status d next → Remains around' d (its_line next) → SettledLine around'.seen d next t t'
+abbrev pub breaks_by : (status : Status) (around' : Around) (t' : Option (List ℕ)) (d : Desk) (next : Tagged) (t : Option (List ℕ)) → BrokenBy status d next t t' → Remains around' d (its_line next) → SettledLine around'.seen d next t t'
     → Breaks status around' t' d next t
 breaks_by status around' t' d next t broken remains settled = record { broken = broken; carries = remains.carries; settled = settled; views = remains.views }
 

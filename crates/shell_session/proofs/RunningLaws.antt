@@ -28,7 +28,8 @@ use Rattle.script_text.specs.Words.{cut}
 use Rattle.script_text.specs.declared.command.Command.TheVariants.{Quit}
 use Rattle.desk_commands.specs.Desk.{Desk, desks}
 use Rattle.desk_commands.specs.Standing.{BrokenLine, DeskHolding, SettledLine, line_left}
-use Rattle.shell_commands.specs.Tasks.{order_writes}
+use Rattle.shell_commands.specs.Tasks.{order_writes, writes_early}
+use Rattle.shell_state.specs.Ends.{Unsaid}
 use Rattle.shell_state.specs.Stands.{WhyHalt}
 use Rattle.shell_state.specs.declared.halt.Halt.{Halt}
 use Rattle.shell_state.specs.declared.halt.Halt.TheVariants as halt
@@ -41,7 +42,7 @@ use Rattle.shell_session.specs.declared.status.Status.{Status}
 use Rattle.shell_session.specs.declared.status.Status.TheVariants.{InputTooLong, Memory, ReadFault}
 use Rattle.shell_session.proofs.DeskLaws.{Remains, alone_line, breaks_by, desk_carries, its_line, left_desk, same_kind, unsettled_line}
 use Rattle.shell_session.proofs.PriceLaws.{paid_all, paid_one}
-use Rattle.shell_session.proofs.ViewLaws.{lives_more, lives_since, lives_twice, told_all-append, told_one}
+use Rattle.shell_session.proofs.ViewLaws.{left_alone, lives_more, lives_since, lives_twice, told_all-append, told_one}
 
 -- What remains does not ask how many changes were told.
 abbrev pub breaks_so : (status : Status) (around : Around) (more : ℕ → ℕ) (t t' : Option (List ℕ)) (d : Desk) (next : Tagged) → Breaks status (told_more around more) t' d next t → Breaks status around t' d next t
@@ -56,7 +57,7 @@ stopped_so status around more d left t t' q =
 pub remains_of : (held : DeskHolding) (around : Around) (more : ℕ → ℕ) (d : Desk) (line : Line) → Lives held (told_more around more) d → Remains around d line
 remains_of held around more d line lives = record {
   carries = desk_carries held around.seen d (line_left d line) lives.stands;
-  views = λ k idle other. lives.views.idle k idle;
+  views = λ k other. left_alone held (told_more around more) d lives k;
 }
 
 -- What the reader meets of whole lines.
@@ -577,13 +578,13 @@ paid_done d bytes t₀ held around reader l t a₀ a ran =
 
 -- A line without a body that was broken off.
 pub interrupted : (halt : Halt) (around' : Around) (d : Desk) (next : Tagged) (t t' : Option (List ℕ)) → body_word next.task.order ≡ None → Cut (BrokenLine d next halt) (desks.text d next) t t' → Remains around' d (its_line next)
-    → SettledLine around'.seen d next t t' → Interrupted (status_of_halt halt) around' d next t t'
-interrupted (halt.Device stop.Files) around' d next t t' none broken_off remains settled = record { cut = record { wrote = broken_off.wrote; broken = breaks_by _ _ _ _ _ _ broken_off.broken remains settled }; in_line = tt }
-interrupted (halt.Device stop.Write) around' d next t t' none broken_off remains settled = record { cut = record { wrote = broken_off.wrote; broken = breaks_by _ _ _ _ _ _ tt remains settled }; in_line = tt }
-interrupted (halt.Device stop.Memory) around' d next t t' none broken_off remains settled = record { cut = record { wrote = broken_off.wrote; broken = breaks_by _ _ _ _ _ _ tt remains settled }; in_line = tt }
-interrupted (halt.Device stop.Read) around' d next t t' none broken_off remains settled =
+    → SettledLine around'.seen d next t t' → (writes_early next.task.order ≡ false → Unsaid halt t t') → Interrupted (status_of_halt halt) around' d next t t'
+interrupted (halt.Device stop.Files) around' d next t t' none broken_off remains settled unsaid = record { cut = record { wrote = broken_off.wrote; broken = breaks_by _ _ _ _ _ _ (broken_off.broken, λ late. unsaid late refl) remains settled }; in_line = tt }
+interrupted (halt.Device stop.Write) around' d next t t' none broken_off remains settled unsaid = record { cut = record { wrote = broken_off.wrote; broken = breaks_by _ _ _ _ _ _ tt remains settled }; in_line = tt }
+interrupted (halt.Device stop.Memory) around' d next t t' none broken_off remains settled unsaid = record { cut = record { wrote = broken_off.wrote; broken = breaks_by _ _ _ _ _ _ tt remains settled }; in_line = tt }
+interrupted (halt.Device stop.Read) around' d next t t' none broken_off remains settled unsaid =
     let e : false ≡ true = sym (alone_line d next none) ∙ broken_off.broken in cc
-interrupted (halt.Changed game kept found) around' d next t t' none broken_off remains settled = absurd broken_off.broken
+interrupted (halt.Changed game kept found) around' d next t t' none broken_off remains settled unsaid = absurd broken_off.broken
 
 pub none_rose : Rose 0 0 → ⊥
 none_rose (inl rose) = absurd (omega (arith, rose))

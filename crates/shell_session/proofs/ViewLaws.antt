@@ -19,10 +19,10 @@ use Rattle.shell_state.specs.State.{State}
 use Rattle.shell_state.specs.declared.halt.Halt.{Halt}
 use Rattle.tree_live.specs.Slots.{in_slot}
 use Rattle.tree_rows.specs.declared.row.Row.{Row}
-use Rattle.view_commands.specs.Views.{AreLeft, IsRight, IsToldAtMost}
+use Rattle.view_commands.specs.Views.{AreLeft, IsRight, IsToldAtMost, is_shown}
 use Rattle.shell_session.proofs.DeskLaws.{its_line}
 use Rattle.shell_session.proofs.IdleLaws.{idle_before}
-use Rattle.shell_session.specs.Around.{AreLeftBy, Around, Lives, Meaning, Views, around, meanings, slots_by, told_all, told_by, told_more}
+use Rattle.shell_session.specs.Around.{AreLeftBy, Around, IsLeftIn, Lives, Meaning, Views, around, meanings, slots_by, told_all, told_by, told_more}
 
 -- ---- views and what they mean
 
@@ -61,12 +61,25 @@ right_out rows told d views are k =
 
 -- ---- a task that is done or broken off
 
--- The views of idle slots that it does not watch are as they were at the beginning.
+-- A view that was right and is as before: none in an empty slot, and in an idle one that of the beginning.
+left_in : (s : State) (slot : Slot) (first now now' : Option Meaning) → IsRight (λ (m : Meaning). m.rows) s slot now → (slot ≡ idle → now ≡ first) → (is_shown slot ≡ false → now' ≡ now) → IsLeftIn slot first now'
+left_in s empty first now now' right stays same = same refl ∙ right
+left_in s idle first now now' right stays same = same refl ∙ stays refl
+left_in s (shows board) first now now' right stays same = tt
+
+-- So is each beside a machine that stands for a state.
+pub left_alone : (held : DeskHolding) (around : Around) (d : Desk) → Lives held around d → (k : ℕ) → IsLeftIn (slot_at d.slots k) (in_slot around.first k) (in_slot around.now k)
+left_alone held around d lives k =
+    left_in (owner_sees d k) (slot_at d.slots k) (in_slot around.first k) (in_slot around.now k) (in_slot around.now k) (lives.views.right k) (lives.views.idle k) (λ hidden. refl)
+
+-- And those that it does not watch.
 pub left_by : {B : Type 0} (rows : B → List Row) (told : B → ℕ) (d : Desk) (t : Tagged) (held : DeskHolding) (seen seen' : Seen) (first : Views) (most : ℕ → ℕ) (views views' : List (Option B))
     → Lives held (around seen first most (meanings rows told views)) d → AreLeft (line_touches d (its_line t)) views views' → AreLeftBy (around seen' first most (meanings rows told views')) d (its_line t)
-left_by rows told d t held seen seen' first most views views' lives left k is other =
-    let untouched : line_touches d (its_line t) k ≡ false = rw (is, other) refl in
-    in_meanings rows told views' k ∙ (ap (option_map (meaning rows told)) (left k untouched) ∙ (sym (in_meanings rows told views k) ∙ lives.views.idle k is))
+left_by rows told d t held seen seen' first most views views' lives left k other =
+    left_in (owner_sees d k) (slot_at d.slots k) (in_slot first k) (in_slot (meanings rows told views) k) (in_slot (meanings rows told views') k) (lives.views.right k) (lives.views.idle k)
+    (λ hidden.
+    let untouched : line_touches d (its_line t) k ≡ false = rw (hidden, other) refl in
+    in_meanings rows told views' k ∙ (ap (option_map (meaning rows told)) (left k untouched) ∙ sym (in_meanings rows told views k)))
 
 told_step : {B : Type 0} (rows : B → List Row) (told : B → ℕ) (most : ℕ) (before after : Option B) → IsToldAtMost told most before after
     → told_by (option_map (meaning rows told) after) ≤ told_by (option_map (meaning rows told) before) + most
@@ -86,7 +99,7 @@ lives_behind rows told d t held held' seen seen' first most views views' text be
       right = right_in rows told (desks.after d t) views' done.right;
       idle = λ k is.
           let earlier = idle_before d t k is in
-          left_by rows told d t held seen seen' first most views views' lives left k earlier.0 earlier.1;
+          subst (λ slot. IsLeftIn slot (in_slot first k) (in_slot (meanings rows told views') k)) earlier.0 (left_by rows told d t held seen seen' first most views views' lives left k earlier.1);
       told = λ k.
           let old : told_by (in_slot (meanings rows told views) k) ≡ told_by (option_map (meaning rows told) (in_slot views k)) = ap told_by (in_meanings rows told views k) in
           let new : told_by (in_slot (meanings rows told views') k) ≡ told_by (option_map (meaning rows told) (in_slot views' k)) = ap told_by (in_meanings rows told views' k) in

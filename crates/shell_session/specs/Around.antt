@@ -1,6 +1,6 @@
 -- What stands around the desk of a session: what the files tell, and the views of the slots, at its beginning and now, with how many changes
 -- each was told since then at most. This project's own.
-use Rattle.std.specs.Prelude.{◌≡◌, ◌≤◌, ◌+◌, ℕ, false, if◌then◌else◌, List, [], ◌∷◌, Option, is_some, map, option_map}
+use Rattle.std.specs.Prelude.{◌≡◌, ◌≤◌, ◌+◌, ℕ, ⊤, false, if◌then◌else◌, List, [], ◌∷◌, Option, None, is_some, map, option_map}
 use Rattle.std.specs.List.{range_with_len}
 use Rattle.std.specs.Option.{option_map_or}
 use Rattle.base_files.specs.Seen.{Seen}
@@ -10,7 +10,7 @@ use Rattle.desk_commands.specs.Views.{AllRight, line_told, line_watches}
 use Rattle.script_lines.specs.Clients.{Tagged, said}
 use Rattle.script_lines.specs.declared.line.Line.{Line}
 use Rattle.shell_state.specs.Slots.{Slot, slot_at}
-use Rattle.shell_state.specs.Slots.Slot.{empty, idle}
+use Rattle.shell_state.specs.Slots.Slot.{empty, idle, shows}
 use Rattle.tree_live.specs.Slots.{in_slot}
 use Rattle.tree_rows.specs.declared.row.Row.{Row}
 
@@ -50,6 +50,15 @@ pub record AreBeside (around : Around) (d : Desk) : Type 0 where
   pub idle : (k : ℕ) → slot_at d.slots k ≡ idle → in_slot around.now k ≡ in_slot around.first k
   pub told : (k : ℕ) → told_by (in_slot around.now k) ≤ told_by (in_slot around.first k) + around.most k
 
+-- What a line that is broken off leaves in a slot that it does not watch: no view where it was empty, and where it was idle that of the beginning.
+abbrev pub IsLeftIn : Slot → Option Meaning → Option Meaning → Type 0
+IsLeftIn empty first now = now ≡ None
+IsLeftIn idle first now = now ≡ first
+IsLeftIn (shows board) first now = ⊤
+
+abbrev pub AreLeftBy : Around → Desk → Line → Type 0
+AreLeftBy around d line = (k : ℕ) → line_watches d line k ≡ false → IsLeftIn (slot_at d.slots k) (in_slot around.first k) (in_slot around.now k)
+
 -- ---- what only private functions cite
 
 -- The machine stands for a desk, with such views.
@@ -70,7 +79,3 @@ told_all d tasks k = summed (λ d next. line_told d next k) d tasks
 
 abbrev pub price_all : Desk → List Tagged → ℕ
 price_all d tasks = summed (λ d next. line_price d (said next.client next.task.order)) d tasks
-
--- Behind a line that was broken off, the views of idle slots that it does not watch are as they were at the beginning.
-abbrev pub AreLeftBy : Around → Desk → Line → Type 0
-AreLeftBy around d line = (k : ℕ) → slot_at d.slots k ≡ idle → line_watches d line k ≡ false → in_slot around.now k ≡ in_slot around.first k

@@ -13,16 +13,13 @@ use Rattle.command_runs.specs.Endings.{Halted}
 use Rattle.command_runs.specs.Plain.{after_all, run}
 use Rattle.desk_commands.specs.Desk.{Desk, desk_begin, desks, seen_by}
 use Rattle.desk_commands.specs.Standing.{effective, line_left, line_price}
-use Rattle.desk_commands.specs.Views.{line_told, line_watches}
+use Rattle.desk_commands.specs.Views.{line_told}
 use Rattle.script_lines.specs.Clients.{Tagged, said}
 use Rattle.script_lines.specs.Script.{longest_script, piece_len, script_len, script_of, whole_lines}
-use Rattle.shell_commands.specs.Tasks.{order_work}
+use Rattle.shell_commands.specs.Tasks.{order_work, writes_early}
 use Rattle.shell_state.specs.Carrying.{AreLeft, Settled, StillCarry}
-use Rattle.shell_state.specs.Slots.{slot_at}
-use Rattle.shell_state.specs.Slots.Slot.{idle}
-use Rattle.tree_live.specs.Slots.{in_slot}
 use Rattle.view_commands.specs.Views.{all_slots}
-use Rattle.shell_session.specs.Around.{Around, AreBeside, Views, slots_by, summed}
+use Rattle.shell_session.specs.Around.{Around, AreBeside, AreLeftBy, Views, slots_by, summed}
 use Rattle.shell_session.specs.Words.{Wanted, words_read}
 use Rattle.shell_session.specs.declared.status.Status.{Status}
 use Rattle.shell_session.specs.declared.status.Status.TheVariants.{Done, Usage, BadBase, ReadFault, WriteFault, FilesFault, Changed, InputTooLong, Memory}
@@ -88,22 +85,23 @@ pub record RanAll (d : Desk) (script : List ℕ) (told : Option (List ℕ)) (tol
       AreBeside (record around' { most = λ k. around'.most k + summed (λ d next. line_told d next k) d (script_of d.clients.tagged script) })
       (after_all desks d (script_of d.clients.tagged script))
 
--- What is known of the line that a status breaks off: the files fail only at one that uses them, and no told record was changed.
-abbrev pub BrokenBy : Status → Desk → Tagged → Type 0
-BrokenBy FilesFault d next = IsTrue (order_work all_slots (effective d.clients next.client next.task.order) next.task.body).files
-BrokenBy (Changed game kept found) d next = ⊥
-BrokenBy _ d next = ⊤
+-- What is known of the line that a status breaks off: the files fail only at one that uses them, of which nothing was written then, unless it is
+-- one that writes while it works; and no told record was changed.
+abbrev pub BrokenBy : Status → Desk → Tagged → Option (List ℕ) → Option (List ℕ) → Type 0
+BrokenBy FilesFault d next told told' =
+    IsTrue (order_work all_slots (effective d.clients next.client next.task.order) next.task.body).files × (writes_early next.task.order ≡ false → told' ≡ told)
+BrokenBy (Changed game kept found) d next told told' = ⊥
+BrokenBy _ d next told told' = ⊤
 
 -- The same, with what remains then. The files carry what they carried, or what the line leaves in their place; of one that leaves a base
--- there nothing was written behind what was told, or they carry what the desk behind it says. The views of idle slots that the line does
--- not watch are as they were at the beginning.
+-- there nothing was written behind what was told, or they carry what the desk behind it says. The slots that the line does not watch
+-- are empty where they were, and the views of idle ones are as they were at the beginning.
 pub record Breaks (status : Status) (around' : Around) (told' : Option (List ℕ)) (d : Desk) (next : Tagged) (told : Option (List ℕ)) : Type 0 where
-  pub broken : BrokenBy status d next
+  pub broken : BrokenBy status d next told told'
   pub carries : StillCarry around'.seen (seen_by d 0) (line_left d (said next.client next.task.order))
   pub settled :
       IfSome (line_left d (said next.client next.task.order)) (λ left. Settled around'.seen (seen_by (desks.after d next) 0) told told')
-  pub views : (k : ℕ) → slot_at d.slots k ≡ idle → line_watches d (said next.client next.task.order) k ≡ false
-      → in_slot around'.now k ≡ in_slot around'.first k
+  pub views : AreLeftBy around' d (said next.client next.task.order)
 
 -- The lines that are done at a fault of the input are those that were read with their line feed; at a script that is too long those that end
 -- within the limit. Their clients are four at a desk.

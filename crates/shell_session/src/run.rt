@@ -56,11 +56,12 @@ pub fn session<F: Files, S: Source, K: Sink>(
     ensures asks { (index names games script : List ℕ) → (F.seen files.old).index ≡ Some index → (F.seen files.old).names ≡ Some names → (F.seen files.old).games ≡ Some games → S.left input.old ≡ Some script →
         Asks (given (map string_bytes words.now) index names games script (meanings (λ b. rows b) (λ b. told b) views.old.items)) (F.asked files.old) (F.asked files.new) }
 
-    // Whatever the files tell, nothing is written where the words or the files refuse.
+    // Whatever the files tell, nothing is written where the words or the files refuse, and the views are as they were.
     ensures silent { StaysIfRefused result (K.taken out.old) (K.taken out.new) }
+    ensures untouched { StaysIfRefused result (meanings (λ b. rows b) (λ b. told b) views.old.items) (meanings (λ b. rows b) (λ b. told b) views.new.items) }
 
-    // Where anything was taken of the input, the opening line stands in what was written.
-    ensures opened { (S.budget input.new ≡ S.budget input.old → ⊥) → (games mended : ℕ) × Grew (adds (K.taken out.old) (opening_text games mended)) (K.taken out.new) }
+    // Where anything was taken of the input, or it counted a fault, the opening line stands in what was written.
+    ensures opened { (S.budget input.new ≡ S.budget input.old → S.faults input.new ≡ S.faults input.old → ⊥) → (games mended : ℕ) × Grew (adds (K.taken out.old) (opening_text games mended)) (K.taken out.new) }
 
     // There are as many places of views as before.
     ensures number { length views.new.items ≡ length views.old.items }

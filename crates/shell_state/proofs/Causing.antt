@@ -1,10 +1,11 @@
 -- Laws of causes: a part that has one device alone has the causes of a command that has all.
-use Rattle.std.proofs.Common.{inl, inr, arith, ℕ, ◌≡◌, true, ◌≤◌, Result, Ok, Err}
+use Rattle.std.proofs.Common.{inl, inr, arith, ℕ, ◌≡◌, true, ◌≤◌, List, Option, Result, Ok, Err}
+use Rattle.std.specs.Prelude.{IfErr}
 use Rattle.base_files.specs.Counters.{Rose}
 use Rattle.base_files.specs.declared.faults.Stop.{Stop}
 use Rattle.base_files.specs.declared.faults.Stop.TheVariants as stop
 use Rattle.command_runs.specs.Counts.{counts, Why, Causes}
-use Rattle.shell_state.specs.Ends.{IsOutput, IsDevice, IsFault}
+use Rattle.shell_state.specs.Ends.{IsOutput, IsDevice, IsFault, Unsaid}
 use Rattle.shell_state.specs.Stands.{Broken, WhyHalt}
 use Rattle.shell_state.specs.State.{State}
 use Rattle.shell_state.specs.Work.{Work}
@@ -38,6 +39,20 @@ broken_by_device s work (halt.Device stop.Memory) asks device = tt
 broken_by_device s work (halt.Device stop.Write) asks device = absurd device
 broken_by_device s work (halt.Device stop.Read) asks device = absurd device
 broken_by_device s work (halt.Changed game kept found) asks device = absurd device
+
+-- Where the files are not used, they break nothing off.
+pub unsaid_without : {A : Type 0} (r : Result A Halt) (i i' o o' : ℕ) (told told' : Option (List ℕ)) → Causes WhyHalt r (counts 0 i o) (counts 0 i' o') → IfErr r (λ (e : Halt). Unsaid e told told')
+unsaid_without (Ok x) i i' o o' told told' c = tt
+unsaid_without (Err (halt.Device stop.Files)) i i' o o' told told' c = absurd (none_rose c.why)
+unsaid_without (Err (halt.Device stop.Read)) i i' o o' told told' c = λ is. cc
+unsaid_without (Err (halt.Device stop.Write)) i i' o o' told told' c = λ is. cc
+unsaid_without (Err (halt.Device stop.Memory)) i i' o o' told told' c = λ is. cc
+unsaid_without (Err (halt.Changed game kept found)) i i' o o' told told' c = λ is. cc
+
+-- Nor where memory alone runs out.
+pub unsaid_memory : {A : Type 0} (r : Result A Halt) (told told' : Option (List ℕ)) → IfErr r (λ (e : Halt). e ≡ halt.Device stop.Memory) → IfErr r (λ (e : Halt). Unsaid e told told')
+unsaid_memory (Ok x) told told' memory = tt
+unsaid_memory (Err e) told told' memory = λ is. cc
 
 -- The causes of a write, beside files that were not used or that counted no less.
 why_write : (e : Halt) (f f' a b : ℕ) → WhyHalt e (counts 0 0 a) (counts 0 0 b) → WhyHalt e (counts f 0 a) (counts f' 0 b)

@@ -1,5 +1,5 @@
 -- Why a part of a command ends early. This project's own.
-use Rattle.std.specs.Prelude.{⊤, ℕ, List, Result, Ok, Err, ◌≡◌, ◌⊎◌}
+use Rattle.std.specs.Prelude.{⊤, ℕ, List, Option, Result, Ok, Err, ◌≡◌, ◌⊎◌}
 use Rattle.std.specs.Result.{result_map_both}
 use Rattle.base_core.specs.declared.fault.EditError.{EditError}
 use Rattle.base_core.specs.declared.fault.EditError.TheVariants as edit
@@ -70,6 +70,10 @@ refused_line error = result_map_both refusal_line (λ halt. halt) (refused_edit 
 -- So it ended, or memory ran out.
 abbrev pub EndsAs : Result (List ℕ) Halt → Halt → Type 0
 EndsAs ends e = (e ≡ halt.Device stop.Memory) ⊎ (ends ≡ Err e)
+
+-- Nothing was written where the files failed.
+abbrev pub Unsaid : Halt → Option (List ℕ) → Option (List ℕ) → Type 0
+Unsaid e told told' = e ≡ halt.Device stop.Files → told' ≡ told
 
 -- What takes a body in ends early by the input, the output, the files or memory alone.
 abbrev pub IsBodyFault : Halt → Type 0

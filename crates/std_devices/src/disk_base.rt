@@ -1,17 +1,21 @@
 //! The three files of one base on a disk: two that are read and replaced whole, and the games file, which is read by blocks.
 use crate::ahead::Ahead;
-use crate::held::Held;
+use crate::bounds::{Reach, read_part};
+use crate::claim::claim;
+use crate::found::is_there;
+use crate::held::{Held, Stamp, has_name, remove_if_same};
 use crate::new_games::{NewGames, write_padded};
+use crate::opening::{look_at, remove_made};
 use crate::places::{Kind, Places, Spot, Trio};
-use crate::renames::{Found, Undone, is_there, put_all, put_back, rename};
-use crate::trouble::{OnFile, Trouble, Why};
+use crate::renames::{Undone, hand_on_folder, put_all, rename};
+use crate::rights::{Rights, give_rights};
+use crate::trouble::{OnFile, Trouble, Why, say_narrower};
 use crate::waiting::Waiting;
 use base_files::Part;
 use std::alloc::{AllocError, Global};
-use std::fs::{File, OpenOptions, TryLockError};
+use std::fs::{File, OpenOptions};
 use std::io::{ErrorKind, Read, Seek, SeekFrom, Write};
-use std::os::unix::fs::{MetadataExt, OpenOptionsExt};
-use std::rt::Files as FileSystem;
+use std::os::unix::fs::OpenOptionsExt;
 use std::{fs, io};
 
 /// Who may read and write a new file until it has the mode of the current one: its owner alone.
@@ -45,65 +49,8 @@ pub struct DiskBase {
     waiting: Waiting,
     // The new games file, where one was begun.
     fresh: Option<NewGames>,
-    // Which new files this run made that are not in their places yet.
-    made: Trio<bool>,
-}
-
-/// Opens the three files of a base. With `create` each that is absent becomes an empty file.
-///
-/// The index is opened first, and has to be in its place when the others are open: so no compaction of another run comes between.
-pub fn open_all<R: FileSystem<File = File>>(
-    system: &R,
-    places: &Places,
-    create: bool,
-) -> Result<Trio<Held>, Trouble> {
-    let files = Trio {
-        index: open_held(system, places, Kind::Index, create)?,
-        names: open_held(system, places, Kind::Names, create)?,
-        games: open_held(system, places, Kind::Games, create)?,
-    };
-    look_at(system, places, &files, Kind::Index)?;
-    Ok(files)
-}
-
-/// Opens the three files of a base that is to be read alone. One of which a compaction was broken off is an error, since it is put right by
-/// renaming its files.
-pub fn open_whole<R: FileSystem<File = File>>(
-    system: &R,
-    places: &Places,
-) -> Result<Trio<Held>, Trouble> {
-    let set_aside = Kind::Index.old();
-    if !is_there(system, places, Kind::Index.current())? && is_there(system, places, set_aside)? {
-        return Err(Trouble::new(set_aside, Why::SetAside));
-    }
-    open_all(system, places, false)
-}
-
-/// Puts the files of a compaction that was broken off back in their places, where exactly those are there that it leaves, and says
-/// whether it did.
-pub fn put_right<R: FileSystem<File = File>>(
-    system: &R,
-    places: &Places,
-    found: &Found,
-) -> Result<bool, Trouble> {
-    let set_aside = Kind::Index.old();
-    if found.has(Kind::Index.current()) || !found.has(set_aside) || found.has_no_current() {
-        return Ok(false);
-    }
-    let Some(done) = found.broken_off() else {
-        return Err(Trouble::new(set_aside, Why::SetAside));
-    };
-    let games = if found.has(Kind::Games.old()) {
-        Kind::Games.old()
-    } else {
-        Kind::Games.current()
-    };
-    let file = fs::open(system, places.path(games)).on(games)?;
-    claim(&file)?;
-    match put_back(system, places, done) {
-        Undone::All => Ok(true),
-        Undone::NotAll => Err(Trouble::new(set_aside, Why::SetAside)),
-    }
+    // The new files that this run made and that are not in their places yet.
+    made: Trio<Option<Stamp>>,
 }
 
 impl DiskBase {
@@ -116,11 +63,7 @@ impl DiskBase {
             ahead: blocks.ahead,
             waiting: blocks.waiting,
             fresh: None,
-            made: Trio {
-                index: false,
-                names: false,
-                games: false,
-            },
+            made: NOTHING_MADE,
         }
     }
 
@@ -129,12 +72,12 @@ impl DiskBase {
         &self.places
     }
 
-    /// The whole of a part.
-    pub fn load(&mut self, alloc: Global, part: Part) -> Result<Vec<u8>, Trouble> {
+    /// A part, as far as its header says, or an index as far as it goes.
+    pub fn load(&mut self, alloc: Global, part: Part, reach: Reach) -> Result<Vec<u8>, Trouble> {
         let kind = Kind::of_part(part);
         let held = self.files.of_mut(kind);
         let mut bytes = Vec::new(alloc);
-        read_whole(held, &mut bytes).on(kind.current())?;
+        read_part(held, kind, reach, &mut bytes).on(kind.current())?;
         Ok(bytes)
     }
 
@@ -156,9 +99,9 @@ impl DiskBase {
     ///
     /// What lies in one block is taken from a block that is read at once, so that going through the records of a games
     /// file costs one call of the system a block. A record that lies elsewhere is read alone. What waits is written before it is read.
-    pub fn read_games<R: FileSystem<File = File>>(
+    pub fn read_games(
         &mut self,
-        system: &R,
+        system: &HostRuntime,
         offset: u64,
         into: &mut [u8],
     ) -> Result<(), Trouble> {
@@ -185,9 +128,9 @@ impl DiskBase {
     ///
     /// The first addition since the base was opened or saved is written at once, so that other runs meet it. What is added behind it waits,
     /// up to a block, until it is read, until the base is saved, or until the work on it ends.
-    pub fn append_games<R: FileSystem<File = File>>(
+    pub fn append_games(
         &mut self,
-        system: &R,
+        system: &HostRuntime,
         known: u64,
         pad: u32,
         bytes: &[u8],
@@ -198,7 +141,20 @@ impl DiskBase {
         if self.adder.is_some() && self.waiting.takes(pad, bytes) {
             return Ok(());
         }
-        self.write_waiting(system)?;
+        self.claim(system)?;
+        let outcome = self.append_claimed(system, pad, bytes);
+        self.release();
+        outcome
+    }
+
+    // Adds behind what waits, which is written first.
+    fn append_claimed(
+        &mut self,
+        system: &HostRuntime,
+        pad: u32,
+        bytes: &[u8],
+    ) -> Result<(), Trouble> {
+        self.put_waiting(system)?;
         if self.adder.is_some() && self.waiting.takes(pad, bytes) {
             return Ok(());
         }
@@ -207,7 +163,18 @@ impl DiskBase {
     }
 
     /// Writes what waits at the end of the games file. A base that somebody else changed is left as it is.
-    pub fn write_waiting<R: FileSystem<File = File>>(&mut self, system: &R) -> Result<(), Trouble> {
+    pub fn write_waiting(&mut self, system: &HostRuntime) -> Result<(), Trouble> {
+        if self.waiting.bytes().is_empty() {
+            return Ok(());
+        }
+        self.claim(system)?;
+        let outcome = self.put_waiting(system);
+        self.release();
+        outcome
+    }
+
+    // Writes what waits, where no other run may change the base meanwhile.
+    fn put_waiting(&mut self, system: &HostRuntime) -> Result<(), Trouble> {
         let count = self.waiting.bytes().len();
         if count == 0 {
             return Ok(());
@@ -223,11 +190,13 @@ impl DiskBase {
     }
 
     // Opens the games file for additions, where it is not. The base has to be as it was.
-    fn open_adder<R: FileSystem<File = File>>(&mut self, system: &R) -> Result<(), Trouble> {
+    fn open_adder(&mut self, system: &HostRuntime) -> Result<(), Trouble> {
         self.look(system)?;
         if self.adder.is_some() {
             return Ok(());
         }
+        // Where the names of new files do not fit, this tells before anything is added.
+        is_there(system, &self.places, Kind::Index.new())?;
         let spot = Kind::Games.current();
         let path = self.places.path(spot);
         let adder = OpenOptions::new().append(true).open(system, path).on(spot)?;
@@ -259,36 +228,31 @@ impl DiskBase {
 
     /// Makes `bytes` the whole of a part: they are written into a new file beside it, which then takes its place, so that
     /// the part is as it was wherever that fails.
-    pub fn replace<R: FileSystem<File = File>>(
+    pub fn replace(
         &mut self,
-        system: &R,
+        system: &HostRuntime,
         part: Part,
         bytes: &[u8],
     ) -> Result<(), Trouble> {
-        claim(&self.files.games.file)?;
+        self.claim(system)?;
         let outcome = self.put_part(system, Kind::of_part(part), bytes);
-        self.remove_made(system);
-        let _ = self.files.games.file.unlock();
+        self.end(system);
         outcome
     }
 
     // Replaces a part that no other run may change meanwhile.
-    fn put_part<R: FileSystem<File = File>>(
-        &mut self,
-        system: &R,
-        kind: Kind,
-        bytes: &[u8],
-    ) -> Result<(), Trouble> {
+    fn put_part(&mut self, system: &HostRuntime, kind: Kind, bytes: &[u8]) -> Result<(), Trouble> {
         self.look(system)?;
         self.look_beside(system, &[Kind::Index.new(), Kind::Names.new()])?;
-        self.write_waiting(system)?;
+        self.put_waiting(system)?;
         if kind == Kind::Index {
-            self.hand_on_added()?;
+            self.hand_on_added(system)?;
         }
-        let held = self.make(system, kind, bytes)?;
+        let mut held = self.make(system, kind, bytes)?;
         self.look(system)?;
         rename(system, &self.places, kind.new(), kind.current()).on(kind.new())?;
-        *self.made.of_mut(kind) = false;
+        *self.made.of_mut(kind) = None;
+        held.note_renamed();
         *self.files.of_mut(kind) = held;
         if kind == Kind::Index {
             self.adder = None;
@@ -297,12 +261,18 @@ impl DiskBase {
     }
 
     /// Makes a new games file, which is empty, beside the current one. An earlier one is removed.
-    pub fn begin_new<R: FileSystem<File = File>>(
-        &mut self,
-        alloc: Global,
-        system: &R,
-    ) -> Result<(), Trouble> {
+    pub fn begin_new(&mut self, alloc: Global, system: &HostRuntime) -> Result<(), Trouble> {
         self.end(system);
+        self.claim(system)?;
+        let outcome = self.begin_claimed(alloc, system);
+        if outcome.is_err() {
+            self.end(system);
+        }
+        outcome
+    }
+
+    // Makes a new games file. The lock stays until it has its place, or is removed.
+    fn begin_claimed(&mut self, alloc: Global, system: &HostRuntime) -> Result<(), Trouble> {
         self.look(system)?;
         self.look_beside_all(system)?;
         let file = self.create(system, Kind::Games)?;
@@ -325,47 +295,51 @@ impl DiskBase {
 
     /// Puts the new games file, to which `added` bytes were added, and new files of the two parts in the place of the current
     /// three, of which each is as it was wherever that fails. There is no new games file afterwards.
-    pub fn commit_new<R: FileSystem<File = File>>(
+    pub fn commit_new(
         &mut self,
-        system: &R,
+        system: &HostRuntime,
         added: u64,
         names: &[u8],
         index: &[u8],
     ) -> Result<(), Trouble> {
-        claim(&self.files.games.file)?;
+        self.claim(system)?;
         let outcome = self.put_new(system, added, names, index);
-        let _ = self.files.games.file.unlock();
         self.end(system);
         outcome
     }
 
     // Puts three new files in the place of the current ones, which no other run may change meanwhile.
-    fn put_new<R: FileSystem<File = File>>(
+    fn put_new(
         &mut self,
-        system: &R,
+        system: &HostRuntime,
         added: u64,
         names: &[u8],
         index: &[u8],
     ) -> Result<(), Trouble> {
         self.look(system)?;
         self.look_beside_all(system)?;
-        let files = Trio {
+        let mut files = Trio {
             games: self.finish(system, added)?,
             names: self.make(system, Kind::Names, names)?,
             index: self.make(system, Kind::Index, index)?,
         };
+        // Nobody else has opened it yet; who does waits until the old files are gone.
+        claim(system, &self.places, Kind::Games.new(), &files.games.file)?;
         self.look(system)?;
         if let Err((trouble, undone)) = put_all(system, &self.places) {
             if undone == Undone::NotAll {
-                // The next opening puts all back.
+                // What was set aside is put back by who is told to.
                 self.made = NOTHING_MADE;
             }
+            note_renamed(&mut self.files);
             return Err(trouble);
         }
         self.made = NOTHING_MADE;
         for kind in Kind::ALL {
-            let _ = fs::remove_file(system, self.places.path(kind.old()));
+            let old = self.files.of(kind).stamp();
+            remove_if_same(system, self.places.path(kind.old()), old);
         }
+        note_renamed(&mut files);
         self.files = files;
         self.adder = None;
         self.waiting.clear();
@@ -374,57 +348,91 @@ impl DiskBase {
     }
 
     // The new games file, handed on to the disk. One that has not `added` bytes was changed by somebody else, and is an error.
-    fn finish<R: FileSystem<File = File>>(
-        &mut self,
-        system: &R,
-        added: u64,
-    ) -> Result<Held, Trouble> {
+    fn finish(&mut self, system: &HostRuntime, added: u64) -> Result<Held, Trouble> {
         let spot = Kind::Games.new();
         let Some(fresh) = self.fresh.take() else {
             return Err(io::Error::from(ErrorKind::NotFound)).on(spot);
         };
-        let held = fresh.finish().on(spot)?;
-        if held.len() != added || !held.stands_at(system, self.places.path(spot)).on(spot)? {
+        let file = fresh.finish().on(spot)?;
+        self.like_current(system, Kind::Games, &file).on(spot)?;
+        file.sync_all().on(spot)?;
+        let held = self.hold_new(system, Kind::Games, file)?;
+        if held.len() != added {
             return Err(Trouble::new(spot, Why::Disturbed));
         }
-        self.like_current(system, Kind::Games, &held.file).on(spot)?;
         Ok(held)
     }
 
-    /// Removes a new games file that was begun and is not in its place.
-    pub fn end<R: FileSystem<File = File>>(&mut self, system: &R) {
+    // Holds a new file, which has to have its name still.
+    fn hold_new(&self, system: &HostRuntime, kind: Kind, file: File) -> Result<Held, Trouble> {
+        let spot = kind.new();
+        let held = Held::new(file).on(spot)?;
+        if has_name(system, self.places.path(spot), &held).on(spot)? {
+            Ok(held)
+        } else {
+            Err(Trouble::new(spot, Why::Disturbed))
+        }
+    }
+
+    /// Removes the new files that were made and are not in their places, and lets other runs change the base.
+    pub fn end(&mut self, system: &HostRuntime) {
         // What it still holds is written as it is dropped, so it goes first.
         self.fresh = None;
-        self.remove_made(system);
+        for kind in Kind::ALL {
+            if let Some(made) = self.made.of(kind) {
+                remove_if_same(system, self.places.path(kind.new()), made);
+            }
+        }
+        self.made = NOTHING_MADE;
+        self.release();
+    }
+
+    /// Removes the three files of a new base, where nothing was put in their places.
+    pub fn take_away(&mut self, system: &HostRuntime) {
+        self.end(system);
+        if Kind::ALL.iter().all(|kind| self.files.of(*kind).len() == 0) {
+            for kind in Kind::ALL {
+                remove_made(system, &self.places, kind, self.files.of(kind));
+            }
+        }
+    }
+
+    // Keeps other runs from changing the base meanwhile.
+    fn claim(&self, system: &HostRuntime) -> Result<(), Trouble> {
+        claim(
+            system,
+            &self.places,
+            Kind::Games.current(),
+            &self.files.games.file,
+        )
+    }
+
+    // Lets other runs change the base, unless a new games file is being made.
+    fn release(&self) {
+        if self.made.games.is_none() {
+            let _ = self.files.games.file.unlock();
+        }
     }
 
     // Makes a new file of these bytes beside the current one, with its mode, and hands it on to the disk.
-    fn make<R: FileSystem<File = File>>(
-        &mut self,
-        system: &R,
-        kind: Kind,
-        bytes: &[u8],
-    ) -> Result<Held, Trouble> {
+    fn make(&mut self, system: &HostRuntime, kind: Kind, bytes: &[u8]) -> Result<Held, Trouble> {
         let spot = kind.new();
         let mut file = self.create(system, kind)?;
         file.write_all(bytes).on(spot)?;
         self.like_current(system, kind, &file).on(spot)?;
         file.sync_all().on(spot)?;
-        Held::new(file).on(spot)
+        self.hold_new(system, kind, file)
     }
 
     // Makes an empty new file. What has its name already stays as it is.
-    fn create<R: FileSystem<File = File>>(
-        &mut self,
-        system: &R,
-        kind: Kind,
-    ) -> Result<File, Trouble> {
+    fn create(&mut self, system: &HostRuntime, kind: Kind) -> Result<File, Trouble> {
         let spot = kind.new();
         let mut how = OpenOptions::new();
         how.read(true).write(true).create_new(true).mode(OWN);
         match how.open(system, self.places.path(spot)) {
             Ok(file) => {
-                *self.made.of_mut(kind) = true;
+                let made = Stamp::of(&file.metadata().on(spot)?);
+                *self.made.of_mut(kind) = Some(made);
                 Ok(file)
             }
             Err(error) if error.kind() == ErrorKind::AlreadyExists => {
@@ -434,42 +442,27 @@ impl DiskBase {
         }
     }
 
-    // Gives a new file the owner and the mode of the current one. An owner that may not be given away stays.
-    fn like_current<R: FileSystem<File = File>>(
-        &self,
-        system: &R,
-        kind: Kind,
-        file: &File,
-    ) -> io::Result<()> {
-        let current = self.files.of(kind).file.metadata()?;
-        let made = file.metadata()?;
-        if current.uid() != made.uid() || current.gid() != made.gid() {
-            let path = self.places.path(kind.new());
-            let _ = system.chown(path, Some(current.uid()), Some(current.gid()));
+    // Gives a new file the owner, the group and the mode of the current one. Where it has narrower rights that is said.
+    fn like_current(&self, system: &HostRuntime, kind: Kind, file: &File) -> io::Result<()> {
+        if give_rights(file, &self.files.of(kind).file)? == Rights::Narrower {
+            say_narrower(system, &self.places, kind.current());
         }
-        file.set_permissions(current.permissions())
+        Ok(())
     }
 
-    // Hands the records that were added on to the disk.
-    fn hand_on_added(&self) -> Result<(), Trouble> {
-        match &self.adder {
-            Some(adder) => adder.sync_all().on(Kind::Games.current()),
-            None => Ok(()),
+    // Hands the records that were added on to the disk, and the folder of the games file where it is not that of the index.
+    fn hand_on_added(&self, system: &HostRuntime) -> Result<(), Trouble> {
+        if let Some(adder) = &self.adder {
+            adder.sync_all().on(Kind::Games.current())?;
         }
-    }
-
-    // Removes the new files that this run made and that are not in their places.
-    fn remove_made<R: FileSystem<File = File>>(&mut self, system: &R) {
-        for kind in Kind::ALL {
-            if *self.made.of(kind) {
-                let _ = fs::remove_file(system, self.places.path(kind.new()));
-            }
+        if self.places.folder(Kind::Games) != self.places.folder(Kind::Index) {
+            hand_on_folder(system, &self.places, Kind::Games);
         }
-        self.made = NOTHING_MADE;
+        Ok(())
     }
 
     // Looks whether the three files are those that were loaded.
-    fn look<R: FileSystem<File = File>>(&self, system: &R) -> Result<(), Trouble> {
+    fn look(&self, system: &HostRuntime) -> Result<(), Trouble> {
         for kind in Kind::ALL {
             look_at(system, &self.places, &self.files, kind)?;
         }
@@ -477,7 +470,7 @@ impl DiskBase {
     }
 
     // Looks whether all names are free that a compaction takes, but that of the new games file.
-    fn look_beside_all<R: FileSystem>(&self, system: &R) -> Result<(), Trouble> {
+    fn look_beside_all(&self, system: &HostRuntime) -> Result<(), Trouble> {
         self.look_beside(system, &[Kind::Index.new(), Kind::Names.new()])?;
         self.look_beside(
             system,
@@ -486,7 +479,7 @@ impl DiskBase {
     }
 
     // Looks whether these names are free.
-    fn look_beside<R: FileSystem>(&self, system: &R, spots: &[Spot]) -> Result<(), Trouble> {
+    fn look_beside(&self, system: &HostRuntime, spots: &[Spot]) -> Result<(), Trouble> {
         for spot in spots {
             if is_there(system, &self.places, *spot)? {
                 return Err(Trouble::new(*spot, Why::InTheWay));
@@ -496,67 +489,17 @@ impl DiskBase {
     }
 }
 
-const NOTHING_MADE: Trio<bool> = Trio {
-    index: false,
-    names: false,
-    games: false,
+const NOTHING_MADE: Trio<Option<Stamp>> = Trio {
+    index: None,
+    names: None,
+    games: None,
 };
 
-// Looks whether this file is the one that was loaded.
-fn look_at<R: FileSystem>(
-    system: &R,
-    places: &Places,
-    files: &Trio<Held>,
-    kind: Kind,
-) -> Result<(), Trouble> {
-    let spot = kind.current();
-    if files
-        .of(kind)
-        .stands_at(system, places.path(spot))
-        .on(spot)?
-    {
-        return Ok(());
+// Notes when files changed that got other names.
+fn note_renamed(files: &mut Trio<Held>) {
+    for kind in Kind::ALL {
+        files.of_mut(kind).note_renamed();
     }
-    Err(Trouble::new(spot, Why::Changed))
-}
-
-// Keeps other runs from changing the base meanwhile. A file system without locks is used without.
-fn claim(games: &File) -> Result<(), Trouble> {
-    match games.try_lock() {
-        Err(TryLockError::WouldBlock) => Err(Trouble::new(Kind::Games.current(), Why::Busy)),
-        _ => Ok(()),
-    }
-}
-
-// Opens a file for reading. With `create` an absent file becomes an empty one; a file that is there is not changed.
-fn open_held<R: FileSystem<File = File>>(
-    system: &R,
-    places: &Places,
-    kind: Kind,
-    create: bool,
-) -> Result<Held, Trouble> {
-    let spot = kind.current();
-    let path = places.path(spot);
-    let file = match fs::open(system, path) {
-        Err(error) if create && error.kind() == ErrorKind::NotFound => {
-            OpenOptions::new()
-                .read(true)
-                .write(true)
-                .create(true)
-                .open(system, path)
-        }
-        answer => answer,
-    };
-    Held::new(file.on(spot)?).on(spot)
-}
-
-// Reads the whole of a file into room for one byte more than its length, so that its end is met there, and notes its state before that.
-fn read_whole(held: &mut Held, bytes: &mut Vec<u8>) -> io::Result<()> {
-    held.note()?;
-    bytes.reserve_exact((held.len() as usize).saturating_add(1))?;
-    held.file.seek(SeekFrom::Start(0))?;
-    held.file.read_to_end(bytes)?;
-    Ok(())
 }
 
 // Fills `into` from this place of the file on.

@@ -5,25 +5,25 @@ ghost use Rattle.base_files.specs.Causes.{HasCause, after_error};
 ghost use Rattle.base_files.specs.Seen.{chose, measured, appended, replaced, AppendedInPart, begun, lengthened, LengthenedInPart, committed, FreshAlone};
 ghost use Rattle.std_devices.specs.Meters.{seen_of};
 
-use crate::disk_base::{Blocks, DiskBase, open_all, open_whole, put_right};
+use crate::bounds::Reach;
+use crate::disk_base::{Blocks, DiskBase};
 use crate::held::Held;
-use crate::places::{Form, Kind, Places, Spot, Trio};
-use crate::renames::{Found, is_there};
-use crate::trouble::{Trouble, notice};
+use crate::opening::{make_base, open_base};
+use crate::places::{Places, Trio};
+use crate::trouble::{Trouble, say};
 use base_files::{Choices, DeviceError, Failed, FaultCount, Files, Part};
 use std::alloc::Global;
-use std::fs::File;
-use std::io::Eprint;
 use std::marker::Model;
-use std::rt::Files as FileSystem;
 
-// What may be done with the files of a base.
+// Where the files of a base come from.
 #[derive(Clone, Copy, PartialEq, Eq, Drop)]
-enum Access {
-    // They are read, and nothing of them is changed.
-    Reading,
-    // They are changed too.
-    Changing,
+enum Origin {
+    // They are opened.
+    Opened,
+    // They are opened, and the index is read as far as it goes.
+    Whole,
+    // They are made, and none of them may be there.
+    Made,
 }
 
 /// The files `BASE.si4`, `BASE.sn4` and `BASE.sg4` on the disks of the host. It tells nothing of their contents.
@@ -32,7 +32,7 @@ enum Access {
 pub struct DiskFiles<'r> {
     system: &'r HostRuntime,
     alloc: Global,
-    access: Access,
+    origin: Origin,
     base: Option<DiskBase>,
     choices: Choices,
     known: u64,
@@ -55,23 +55,30 @@ impl<'r> DiskFiles<'r> {
     pub fn new(alloc: Global, system: &'r HostRuntime) -> DiskFiles<'r>
         ensures { result ≡ record { choices = []; known = 0; added = 0; asked = 0; faults = 0 } }
     {
-        DiskFiles::with(alloc, system, Access::Changing)
+        DiskFiles::with(alloc, system, Origin::Opened)
     }
 
-    /// The same of a base that is to be read alone: choosing it changes nothing, also where a compaction of it was broken off.
-    pub fn read_only(alloc: Global, system: &'r HostRuntime) -> DiskFiles<'r>
+    /// The same of a base that may be faulty: its index is read as far as it goes, also behind the entries that its header counts.
+    pub fn of_faulty_base(alloc: Global, system: &'r HostRuntime) -> DiskFiles<'r>
         ensures { result ≡ record { choices = []; known = 0; added = 0; asked = 0; faults = 0 } }
     {
-        DiskFiles::with(alloc, system, Access::Reading)
+        DiskFiles::with(alloc, system, Origin::Whole)
     }
 
-    fn with(alloc: Global, system: &'r HostRuntime, access: Access) -> DiskFiles<'r>
+    /// The same of a new base: choosing it makes its three files, of which none may be there. No link is followed.
+    pub fn of_new_base(alloc: Global, system: &'r HostRuntime) -> DiskFiles<'r>
+        ensures { result ≡ record { choices = []; known = 0; added = 0; asked = 0; faults = 0 } }
+    {
+        DiskFiles::with(alloc, system, Origin::Made)
+    }
+
+    fn with(alloc: Global, system: &'r HostRuntime, origin: Origin) -> DiskFiles<'r>
         ensures { result ≡ record { choices = []; known = 0; added = 0; asked = 0; faults = 0 } }
     {
         DiskFiles {
             system,
             alloc,
-            access,
+            origin,
             base: None,
             choices: Choices::new(alloc),
             known: 0,
@@ -90,6 +97,15 @@ impl<'r> DiskFiles<'r> {
             // No index points to what was not saved, so nothing is lost where this fails.
             let _ = base.write_waiting(self.system);
             base.end(self.system);
+        }
+    }
+
+    /// Ends the work on a new base of which nothing was put in its place: its files, which are empty, are removed.
+    pub fn take_away(&mut self)
+        ensures same { self.new ≡ self.old }
+    {
+        if let Some(mut base) = self.base.take() {
+            base.take_away(self.system);
         }
     }
 }
@@ -113,7 +129,11 @@ impl<'r> Files for DiskFiles<'r> {
         ensures counted { MatchResult result (λ _. self.new.faults ≡ self.old.faults) (λ e. self.new.faults ≡ after_error e self.old.faults) }
         ensures rest { self.new ≡ record self.old { choices = self.new.choices; faults = self.new.faults } }
     {
-        let places = match Places::new(self.alloc, self.system, name) {
+        let named = match self.origin {
+            Origin::Opened | Origin::Whole => Places::new(self.alloc, self.system, name),
+            Origin::Made => Places::unfollowed(self.alloc, name),
+        };
+        let places = match named {
             Ok(places) => places,
             Err(_) => return Err(DeviceError::Memory),
         };
@@ -124,10 +144,8 @@ impl<'r> Files for DiskFiles<'r> {
         if self.choices.add(name, create).is_err() {
             return Err(DeviceError::Memory);
         }
-        let opened = match self.access {
-            Access::Reading => open_to_read(&mut self.base, self.system, places, blocks),
-            Access::Changing => open(&mut self.base, self.system, places, blocks, create),
-        };
+        let origin = self.origin;
+        let opened = open(&mut self.base, self.system, places, blocks, origin, create);
         match opened {
             Ok(()) => Ok(()),
             Err(_) => Err(DeviceError::from(self.faults.fault())),
@@ -146,7 +164,11 @@ impl<'r> Files for DiskFiles<'r> {
         let Some(base) = &mut self.base else {
             return Err(DeviceError::from(self.faults.fault()));
         };
-        match base.load(alloc, part) {
+        let reach = match self.origin {
+            Origin::Whole => Reach::All,
+            Origin::Opened | Origin::Made => Reach::Counted,
+        };
+        match base.load(alloc, part, reach) {
             Ok(bytes) => Ok(bytes),
             Err(trouble) => {
                 tell(self.system, base, &trouble);
@@ -346,36 +368,17 @@ impl<'r> Files for DiskFiles<'r> {
     }
 }
 
-// Opens a base to be read alone in the place of the one that is there, and says why that fails. Then there is none.
-fn open_to_read<R: FileSystem<File = File> + Eprint>(
+// Opens or makes a base in the place of the one that is there, and says why that fails. Then there is none.
+fn open(
     base: &mut Option<DiskBase>,
-    system: &R,
-    places: Places,
+    system: &HostRuntime,
+    mut places: Places,
     blocks: Blocks,
-) -> Result<(), Failed> {
-    *base = None;
-    match open_whole(system, &places) {
-        Ok(files) => {
-            *base = Some(DiskBase::new(places, files, blocks));
-            Ok(())
-        }
-        Err(trouble) => {
-            say(system, &places, &trouble);
-            Err(Failed)
-        }
-    }
-}
-
-// Opens a base in the place of the one that is there, and says what stands beside it, and why that fails. Then there is none.
-fn open<R: FileSystem<File = File> + Eprint>(
-    base: &mut Option<DiskBase>,
-    system: &R,
-    places: Places,
-    blocks: Blocks,
+    origin: Origin,
     create: bool,
 ) -> Result<(), Failed> {
     *base = None;
-    match put_right_and_open(system, &places, create) {
+    match files_of(system, &mut places, origin, create) {
         Ok(files) => {
             *base = Some(DiskBase::new(places, files, blocks));
             Ok(())
@@ -387,39 +390,23 @@ fn open<R: FileSystem<File = File> + Eprint>(
     }
 }
 
-// Puts the files of a compaction that was broken off back in their places, says what stands beside the base, and opens it.
-fn put_right_and_open<R: FileSystem<File = File> + Eprint>(
-    system: &R,
-    places: &Places,
+// The files of a base.
+fn files_of(
+    system: &HostRuntime,
+    places: &mut Places,
+    origin: Origin,
     create: bool,
 ) -> Result<Trio<Held>, Trouble> {
-    let found = Found::look(system, places)?;
-    if put_right(system, places, &found)? {
-        note(system, places, Kind::Index.current());
+    if let Some(trouble) = places.take_lost() {
+        return Err(trouble);
     }
-    for form in [Form::New, Form::Old] {
-        for kind in Kind::ALL {
-            let spot = Spot { kind, form };
-            if is_there(system, places, spot)? {
-                note(system, places, spot);
-            }
-        }
+    match origin {
+        Origin::Opened | Origin::Whole => open_base(system, places, create),
+        Origin::Made => make_base(system, places),
     }
-    open_all(system, places, create)
-}
-
-// Says what was found at the opening of a base.
-fn note<R: Eprint>(system: &R, places: &Places, spot: Spot) {
-    let _ = eprintln!(system; "{}: {}", places.path(spot), notice(spot));
 }
 
 // Says what is wrong with a file of the base.
-fn tell<R: Eprint>(system: &R, base: &DiskBase, trouble: &Trouble) {
+fn tell(system: &HostRuntime, base: &DiskBase, trouble: &Trouble) {
     say(system, base.places(), trouble);
-}
-
-fn say<R: Eprint>(system: &R, places: &Places, trouble: &Trouble) {
-    if !trouble.is_memory() {
-        let _ = eprintln!(system; "{}: {}", places.path(trouble.spot), trouble.why);
-    }
 }

@@ -1,6 +1,5 @@
 //! The new games file of a base on a disk.
 use crate::ahead::BLOCK;
-use crate::held::Held;
 use std::alloc::Global;
 use std::fs::File;
 use std::io;
@@ -28,12 +27,11 @@ impl NewGames {
         write_padded(&mut self.writer, pad, bytes)
     }
 
-    /// The file, of which all is handed on to the disk.
-    pub fn finish(mut self) -> io::Result<Held> {
+    /// The file, to which all is written.
+    pub fn finish(mut self) -> io::Result<File> {
         self.writer.flush()?;
         let (file, _) = self.writer.into_parts();
-        file.sync_all()?;
-        Held::new(file)
+        Ok(file)
     }
 }
 

@@ -1,4 +1,5 @@
 //! The paths of the three files of a base, of the new files beside them, and of the old ones that are set aside.
+use crate::trouble::{Trouble, Why};
 use base_files::Part;
 use std::alloc::{AllocError, Global};
 use std::io;
@@ -43,9 +44,13 @@ pub struct Trio<T> {
 /// The paths of a base.
 #[derive(Drop)]
 pub struct Places {
+    name: String,
     current: Trio<String>,
     new: Trio<String>,
     old: Trio<String>,
+    // Which of the names that were given are symbolic links, and the first that can't be followed.
+    links: Trio<bool>,
+    lost: Option<Trouble>,
 }
 
 impl Kind {
@@ -75,7 +80,8 @@ impl Kind {
         self.spot(Form::Old)
     }
 
-    fn spot(self, form: Form) -> Spot {
+    /// The file of this kind in this form.
+    pub fn spot(self, form: Form) -> Spot {
         Spot { kind: self, form }
     }
 }
@@ -104,16 +110,39 @@ impl Places {
     /// The paths of the base of this name. Where a file of it is a symbolic link, all paths are those beside the file that the link names,
     /// so that the link stays one.
     pub fn new<R: FileSystem>(alloc: Global, system: &R, name: &str) -> Result<Places, AllocError> {
+        let mut places = Places::unfollowed(alloc, name)?;
+        for kind in Kind::ALL {
+            places.follow(alloc, system, kind)?;
+        }
+        places.new = beside(alloc, &places.current, "new")?;
+        places.old = beside(alloc, &places.current, "old")?;
+        Ok(places)
+    }
+
+    /// The paths of a new base of this name. No link is followed.
+    pub fn unfollowed(alloc: Global, name: &str) -> Result<Places, AllocError> {
         let current = Trio {
-            index: resolved(alloc, system, format!(in alloc; "{name}.si4")?)?,
-            names: resolved(alloc, system, format!(in alloc; "{name}.sn4")?)?,
-            games: resolved(alloc, system, format!(in alloc; "{name}.sg4")?)?,
+            index: format!(in alloc; "{name}.si4")?,
+            names: format!(in alloc; "{name}.sn4")?,
+            games: format!(in alloc; "{name}.sg4")?,
         };
         Ok(Places {
+            name: format!(in alloc; "{name}")?,
             new: beside(alloc, &current, "new")?,
             old: beside(alloc, &current, "old")?,
             current,
+            links: Trio {
+                index: false,
+                names: false,
+                games: false,
+            },
+            lost: None,
         })
+    }
+
+    /// The name that was given.
+    pub fn name(&self) -> &str {
+        self.name.as_str()
     }
 
     /// The path of this file.
@@ -133,6 +162,55 @@ impl Places {
             _ => ".",
         }
     }
+
+    /// Whether the name that was given for this kind is a symbolic link.
+    pub fn is_link(&self, kind: Kind) -> bool {
+        *self.links.of(kind)
+    }
+
+    /// The first link that can't be followed, once.
+    pub fn take_lost(&mut self) -> Option<Trouble> {
+        self.lost.take()
+    }
+
+    // Follows the links at the path of this kind.
+    fn follow<R: FileSystem>(
+        &mut self,
+        alloc: Global,
+        system: &R,
+        kind: Kind,
+    ) -> Result<(), AllocError> {
+        for _ in 0..MOST_LINKS {
+            match followed(alloc, system, self.current.of(kind).as_str()) {
+                Ok(target) => *self.current.of_mut(kind) = target,
+                // A file that is no link, or none.
+                Err(error) if is_end(error.kind()) => return Ok(()),
+                Err(error) if error.kind() == ErrorKind::OutOfMemory => return Err(AllocError),
+                Err(error) => {
+                    self.lose(kind, Why::of_link(error));
+                    return Ok(());
+                }
+            }
+            *self.links.of_mut(kind) = true;
+        }
+        self.lose(
+            kind,
+            Why::System(io::Error::from(ErrorKind::FilesystemLoop)),
+        );
+        Ok(())
+    }
+
+    // Notes why a link can't be followed.
+    fn lose(&mut self, kind: Kind, why: Why) {
+        if self.lost.is_none() {
+            self.lost = Some(Trouble::new(kind.current(), why));
+        }
+    }
+}
+
+// Whether a path with this error is that of no link.
+fn is_end(kind: ErrorKind) -> bool {
+    kind == ErrorKind::InvalidInput || kind == ErrorKind::NotFound
 }
 
 // The three paths with this ending.
@@ -142,19 +220,6 @@ fn beside(alloc: Global, current: &Trio<String>, ending: &str) -> Result<Trio<St
         names: format!(in alloc; "{}.{ending}", current.names)?,
         games: format!(in alloc; "{}.{ending}", current.games)?,
     })
-}
-
-// The path of the file that this path names, which may be absent: links to it are followed.
-fn resolved<R: FileSystem>(alloc: Global, system: &R, path: String) -> Result<String, AllocError> {
-    let mut path = path;
-    for _ in 0..MOST_LINKS {
-        match followed(alloc, system, &path) {
-            Ok(target) => path = target,
-            Err(error) if error.kind() == ErrorKind::OutOfMemory => return Err(AllocError),
-            Err(_) => return Ok(path),
-        }
-    }
-    Ok(path)
 }
 
 // The path that the link at this path has. What is no link is an error.

@@ -1,8 +1,10 @@
 //! What is wrong with the files of a base: which of them, and why.
-use crate::places::{Form, Kind, Spot};
+use crate::places::{Form, Kind, Places, Spot};
+use crate::shown::Shown;
+use base_files::DeviceError;
 use std::alloc::AllocError;
 use std::fmt::{Display, Formatter};
-use std::io::ErrorKind;
+use std::io::{ErrorKind, IsTerminal};
 use std::{fmt, io};
 
 /// Why a file can't be used.
@@ -18,8 +20,18 @@ pub enum Why {
     InTheWay,
     /// Another run is at work on the base.
     Busy,
-    /// A compaction was broken off, and what stands there is not what it leaves.
+    /// The file system answers a lock with this error, so that nothing keeps other runs away.
+    NoLock(io::Error),
+    /// A compaction was broken off.
     SetAside,
+    /// What stands there is nothing that a run leaves.
+    Unknown,
+    /// It is a folder, a device, a pipe or a socket.
+    NoFile,
+    /// It is a link whose target is no text.
+    NoText,
+    /// It is a link that leads to no file.
+    Dangling,
 }
 
 /// Which file can't be used, and why.
@@ -27,6 +39,17 @@ pub enum Why {
 pub struct Trouble {
     pub spot: Spot,
     pub why: Why,
+}
+
+impl Why {
+    /// Why a link can't be followed that has this error.
+    pub fn of_link(error: io::Error) -> Why {
+        if error.kind() == ErrorKind::InvalidFilename && error.raw_os_error().is_none() {
+            Why::NoText
+        } else {
+            Why::System(error)
+        }
+    }
 }
 
 impl Trouble {
@@ -40,12 +63,21 @@ impl Trouble {
         self.kind() == ErrorKind::OutOfMemory
     }
 
+    /// The error of a device that this is.
+    pub fn device_error(&self) -> DeviceError {
+        if self.is_memory() {
+            DeviceError::Memory
+        } else {
+            DeviceError::Failed
+        }
+    }
+
     /// The kind of error that this is.
     pub fn kind(&self) -> ErrorKind {
         match &self.why {
             Why::System(error) => error.kind(),
-            Why::Changed | Why::Disturbed | Why::Busy | Why::SetAside => ErrorKind::InvalidData,
             Why::InTheWay => ErrorKind::AlreadyExists,
+            _ => ErrorKind::InvalidData,
         }
     }
 }
@@ -63,6 +95,10 @@ impl Display for Why {
     fn fmt<W: fmt::Write>(&self, f: &mut Formatter<W>) -> fmt::Result {
         match self {
             Why::System(error) => Display::fmt(error, f),
+            Why::NoLock(error) => write!(
+                f,
+                "no lock on its file system ({error}), so nothing is changed; copy the base to another disk"
+            ),
             Why::Changed => f.write_str(
                 "another program changed it since it was loaded; it stays as it is",
             ),
@@ -75,9 +111,13 @@ impl Display for Why {
             Why::Busy => f.write_str(
                 "another run saves or compacts this base; nothing was changed",
             ),
-            Why::SetAside => f.write_str(
-                "a compact was broken off; rename the .old files to their names without .old, the index last",
+            Why::SetAside => f.write_str("a compact was broken off; nothing was changed"),
+            Why::Unknown => f.write_str(
+                "no run leaves such files beside a base; nothing was changed (docs/OUTSIDE.md)",
             ),
+            Why::NoFile => f.write_str("it is a folder, a device, a pipe or a socket, and no file"),
+            Why::NoText => f.write_str("it is a link whose target is no UTF-8 text"),
+            Why::Dangling => f.write_str("it is a link that leads to no file; none is made there"),
         }
     }
 }
@@ -97,15 +137,54 @@ impl<T> OnFile<T> for io::Result<T> {
     }
 }
 
-/// What is said of a file that was found beside a base as it was opened.
-pub fn notice(spot: Spot) -> &'static str {
+/// Says on standard error what is wrong with a file of a base, unless memory was refused.
+pub fn say(system: &HostRuntime, places: &Places, trouble: &Trouble) {
+    if trouble.is_memory() {
+        return;
+    }
+    let shown = system.stderr().is_terminal();
+    let path = Shown::new(places.path(trouble.spot), shown);
+    let _ = match trouble.why {
+        Why::SetAside => {
+            let name = Shown::new(places.name(), shown);
+            eprintln!(system;
+                "{path}: {}; scid_mend --back {name} puts it right",
+                trouble.why
+            )
+        }
+        _ => eprintln!(system; "{path}: {}", trouble.why),
+    };
+}
+
+/// Says on standard error what a file is that was found beside a base as it was opened.
+pub fn note(system: &HostRuntime, places: &Places, spot: Spot) {
+    let shown = system.stderr().is_terminal();
+    let path = Shown::new(places.path(spot), shown);
+    let name = Shown::new(places.name(), shown);
+    let refused = refused_beside(spot);
+    let _ = eprintln!(system;
+        "{path}: of a run that was broken off or is at work, or your own; {refused} refused until it is moved away, or taken away by scid_mend --back {name}"
+    );
+}
+
+/// Says on standard error that another run's lock is waited for.
+pub fn say_waiting(system: &HostRuntime, places: &Places, spot: Spot) {
+    let path = Shown::new(places.path(spot), system.stderr().is_terminal());
+    let _ = eprintln!(system; "{path}: another run is at work on this base; waiting for it");
+}
+
+/// Says on standard error that a new file has narrower rights than the one whose place it takes.
+pub fn say_narrower(system: &HostRuntime, places: &Places, spot: Spot) {
+    let path = Shown::new(places.path(spot), system.stderr().is_terminal());
+    let _ = eprintln!(system;
+        "{path}: its group could not be kept, so the group that it has may no more than all others"
+    );
+}
+
+// What is refused while this file stands beside a base.
+fn refused_beside(spot: Spot) -> &'static str {
     match (spot.form, spot.kind) {
-        (Form::New, Kind::Index | Kind::Names) => {
-            "of a run that was broken off or is at work, or your own; save and compact are refused until it is moved away"
-        }
-        (Form::New | Form::Old, _) => {
-            "of a run that was broken off or is at work, or your own; compact is refused until it is moved away"
-        }
-        (Form::Current, _) => "a compact was broken off; its files are back in their places",
+        (Form::New, Kind::Index | Kind::Names) => "save and compact are",
+        _ => "compact is",
     }
 }

@@ -7,8 +7,6 @@
 mod line;
 mod page;
 mod sink;
-#[cfg(test)]
-mod tests;
 mod way;
 mod writing;
 

@@ -10,7 +10,7 @@ ghost use Rattle.game_tree.specs.Head.{IsBounded};
 ghost use Rattle.game_tree.specs.Legal.{IsLegalGame};
 ghost use Rattle.index_entry.specs.declared.entry.Entry.{Entry};
 ghost use Rattle.pgn_write.specs.Pgn.{pgn_of};
-ghost use Rattle.shell_state.specs.Ends.{IsDevice, halt_of};
+ghost use Rattle.shell_state.specs.Ends.{IsDevice, Unsaid, halt_of};
 ghost use Rattle.shell_state.specs.Passing.{len_if_in};
 ghost use Rattle.shell_state.specs.Stands.{Stands, Sound, Broken, WhyHalt, len_at, Asks, AsksAll};
 ghost use Rattle.shell_state.specs.State.{State};
@@ -28,6 +28,7 @@ use std::alloc::{AllocError, Global};
 use text_pages::{write_full, write_page};
 
 /// show G
+#[tactic(auto, using(shell_state::proofs::Causing::unsaid_without))]
 pub fn show<F: Files, K: Sink>(
     alloc: Global,
     machine: &mut Machine,
@@ -43,6 +44,7 @@ pub fn show<F: Files, K: Sink>(
     ensures asked { OnOk result (AsksAll machine.old (show_work number) (F.asked files.old) (F.asked files.new)) }
     // Whatever the files hold, what is written is the text of a legal game, which has the signature that is kept.
     ensures shown { OnOk result (WritesTextOf machine.old.kept number (K.taken out.old) (K.taken out.new)) }
+    ensures unsaid { IfErr result (λ e. Unsaid e (K.taken out.old) (K.taken out.new)) }
     ensures none_lost { NoneLost (K.taken out.old) (K.taken out.new) }
     ensures causes { Causes WhyHalt result (counts (F.faults files.old) 0 (K.faults out.old)) (counts (F.faults files.new) 0 (K.faults out.new)) }
 {
@@ -71,6 +73,7 @@ fn show_there<F: Files, K: Sink>(
     ensures asks { Asks machine.old (show_work i) (F.asked files.old) (F.asked files.new) }
     ensures asked { OnOk result (AsksAll machine.old (show_work i) (F.asked files.old) (F.asked files.new)) }
     ensures shown { OnOk result (WritesTextOf machine.old.kept i (K.taken out.old) (K.taken out.new)) }
+    ensures unsaid { IfErr result (λ e. Unsaid e (K.taken out.old) (K.taken out.new)) }
     ensures none_lost { NoneLost (K.taken out.old) (K.taken out.new) }
     ensures causes { Causes WhyHalt result (counts (F.faults files.old) 0 (K.faults out.old)) (counts (F.faults files.new) 0 (K.faults out.new)) }
 {
@@ -225,6 +228,7 @@ fn put_one<F: Files, K: Sink>(
 }
 
 // Writes a game. Its record is read into `block`.
+#[tactic(auto, using(shell_state::proofs::Causing::unsaid_without))]
 fn write_one<F: Files, K: Sink>(
     alloc: Global,
     base: &Base,
@@ -242,6 +246,7 @@ fn write_one<F: Files, K: Sink>(
     ensures asks { F.asked files.new ≤ F.asked files.old + len_at base.now.entries i }
     ensures asked { OnOk result (raised (F.asked files.old) (len_at base.now.entries i) ≤ F.asked files.new) }
     ensures shown { OnOk result (WritesTextOf base.now i (K.taken out.old) (K.taken out.new)) }
+    ensures unsaid { IfErr result (λ e. Unsaid e (K.taken out.old) (K.taken out.new)) }
     ensures none_lost { NoneLost (K.taken out.old) (K.taken out.new) }
     ensures causes { Causes WhyHalt result (counts (F.faults files.old) 0 (K.faults out.old)) (counts (F.faults files.new) 0 (K.faults out.new)) }
 {

@@ -6,4 +6,4 @@ mod RowChangeLaws
 pub mod HeldLaws
 mod WithinLaws
 pub mod FewLaws
-mod StayingLaws
+pub mod StayingLaws

@@ -67,6 +67,7 @@ impl TreeView for TableView {
     fn put(&mut self, row: Row) -> Result<(), AllocError>
         ensures set { OnOk result (Sets row.key (Some row) self.old.rows self.new.rows) }
         ensures unchanged { OnErr result (self.new.rows ≡ self.old.rows) }
+        ensures untold { OnErr result (self.new.told ≡ self.old.told) }
         ensures counts { self.new.told ≤ self.old.told + 1 }
 
         // More than every view promises: which put is refused, and the counts.

@@ -21,10 +21,11 @@ pub trait TreeView: Drop {
         ensures none { rows self.new ≡ [] }
         ensures counts { told self.new ≤ told self.old + 1 };
 
-    /// Sets the row of its key. After want of memory the rows are as they were.
+    /// Sets the row of its key. After want of memory the rows are as they were, and no change was told.
     fn put(&mut self, row: Row) -> Result<(), AllocError>
         ensures set { OnOk result (Sets row.key (Some row) (rows self.old) (rows self.new)) }
         ensures unchanged { OnErr result (rows self.new ≡ rows self.old) }
+        ensures untold { OnErr result (told self.new ≡ told self.old) }
         ensures counts { told self.new ≤ told self.old + 1 };
 
     /// Takes the row of a key out, if there is one.

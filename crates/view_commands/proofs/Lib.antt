@@ -1,3 +1,4 @@
+mod ChangeLaws
 mod HitLaws
 mod KeyLaws
 mod PriceLaws

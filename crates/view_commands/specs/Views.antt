@@ -1,5 +1,5 @@
 -- The commands on slots, each of which shows the tree of a position in a view, and keeps it right. This project's own.
-use Rattle.std.specs.Prelude.{◌≡◌, ◌≤◌, ℕ, ◌+◌, ◌&&◌, nat_le, nat_lt, if◌then◌else◌, Bool, true, false, List, [], Option, Some, None, IsSome, codes, slice_set}
+use Rattle.std.specs.Prelude.{◌≡◌, ◌≤◌, ℕ, ◌+◌, ◌&&◌, nat_le, nat_lt, if◌then◌else◌, Bool, true, false, List, [], Option, Some, None, IsSome, codes, map, slice_set}
 use Rattle.cell_core.specs.Board.{Men}
 use Rattle.cell_core.specs.Packed.{Packed, packed_of}
 use Rattle.cell_core.specs.declared.man.Colour.{Colour}
@@ -7,13 +7,15 @@ use Rattle.game_filter.specs.declared.op.Op.TheVariants.{Ignore}
 use Rattle.search_commands.specs.Searching.{position_len}
 use Rattle.search_commands.specs.Trees.{tree_hits, tree_of}
 use Rattle.shell_state.specs.Lines.{game_line}
-use Rattle.shell_state.specs.Slots.{Slot, exactly, exactly_on, slot_at}
+use Rattle.shell_state.specs.Slots.{Slot, exactly, exactly_on, hit_of_game, slot_at}
 use Rattle.shell_state.specs.Slots.Slot.{empty, idle, shows}
 use Rattle.shell_state.specs.State.{State}
 use Rattle.shell_state.specs.Work.{Work, quiet, reading}
 use Rattle.tree_live.specs.RowChanges.{rows_changed}
 use Rattle.tree_live.specs.Slots.{in_slot}
 use Rattle.tree_live.specs.Views.{Shows}
+use Rattle.tree_live.specs.Watching.{all_out, under}
+use Rattle.tree_live.specs.declared.entry.Entry.{Entry}
 use Rattle.tree_rows.specs.Rows.{rows_of}
 use Rattle.tree_rows.specs.declared.hit.GameHit.{GameHit}
 use Rattle.tree_rows.specs.declared.row.Row.{Row}
@@ -100,6 +102,10 @@ slot_hits s _ = []
 abbrev pub changes_of : State → State → Slot → ℕ
 changes_of s later (shows board) = rows_changed (rows_of (shown_hits s board)) (rows_of (shown_hits later board))
 changes_of s later _ = 0
+
+-- The games of a state, each with what the tree of a board counts of it, if it does, and whether it is in.
+abbrev pub entries_of : State → Packed → List Entry
+entries_of s board = under s.seat.filter (all_out (map (hit_of_game (exactly_on board)) s.shared.base.games))
 
 -- A view that stays was told no more than so many changes; there is none where there was none.
 abbrev pub IsToldAtMost : {B : Type 0} → (B → ℕ) → ℕ → Option B → Option B → Type 0

@@ -14,6 +14,9 @@ const STANDS: u64 = 100;
 /// Takes away what stands on the line.
 const CLEAR: &str = "\r\x1b[K";
 
+/// What is said where somebody types, before the first input.
+const GREETING: &str = "type commands, one a line (--help lists them); quit or Ctrl-D leaves";
+
 /// The line that says how far a run is, where standard error is a terminal, once the run takes more than a second.
 ///
 /// It is short, and the cursor stands at its beginning, so that what somebody else says there covers it.
@@ -26,6 +29,8 @@ pub struct ProgressLine<'r> {
     next: Cell<Duration>,
     shown: Cell<bool>,
     progress: Cell<Progress>,
+    // Whether what to type was said.
+    greeted: Cell<bool>,
     // Whether what is typed, and the text, stand on the same terminal.
     typed: bool,
     text: bool,
@@ -58,6 +63,7 @@ enum Work {
     Reading,
     Adding,
     Compacting,
+    Mending,
     Saving,
     Writing,
 }
@@ -65,13 +71,22 @@ enum Work {
 impl<'r> ProgressLine<'r> {
     /// The line of a run that begins. It is not shown yet.
     pub fn new(rt: &'r HostRuntime) -> ProgressLine<'r> {
+        ProgressLine::of_work(rt, Work::Opening)
+    }
+
+    /// The line of a run that makes a new base of an old one.
+    pub fn of_mending(rt: &'r HostRuntime) -> ProgressLine<'r> {
+        ProgressLine::of_work(rt, Work::Mending)
+    }
+
+    fn of_work(rt: &'r HostRuntime, work: Work) -> ProgressLine<'r> {
         let began = if rt.stderr().is_terminal() {
             Instant::now(rt).ok()
         } else {
             None
         };
         let progress = Progress {
-            work: Work::Opening,
+            work,
             games: 0,
             read: 0,
             place: 0,
@@ -88,6 +103,7 @@ impl<'r> ProgressLine<'r> {
             next: Cell::new(Duration::from_millis(QUIET)),
             shown: Cell::new(false),
             progress: Cell::new(progress),
+            greeted: Cell::new(false),
             typed: rt.stdin().is_terminal(),
             text: rt.stdout().is_terminal(),
         }
@@ -113,7 +129,7 @@ impl<'r> ProgressLine<'r> {
     pub fn read(&self, place: u64) {
         let before = self.progress.get();
         let work = match before.work {
-            Work::Opening | Work::Compacting => before.work,
+            Work::Opening | Work::Compacting | Work::Mending => before.work,
             _ => Work::Reading,
         };
         self.tell(Progress {
@@ -137,10 +153,15 @@ impl<'r> ProgressLine<'r> {
 
     /// A new games file is begun.
     pub fn begun(&self) {
+        let before = self.progress.get();
+        let work = match before.work {
+            Work::Mending => Work::Mending,
+            _ => Work::Compacting,
+        };
         self.tell(Progress {
-            work: Work::Compacting,
+            work,
             copied: 0,
-            ..self.progress.get()
+            ..before
         });
     }
 
@@ -171,10 +192,14 @@ impl<'r> ProgressLine<'r> {
         });
     }
 
-    /// The input is about to be read: no line stands where somebody types.
+    /// The input is about to be read: no line stands where somebody types, and what to type is said once.
     pub fn before_input(&self) {
         if self.typed {
             self.clear();
+            if self.began.is_some() && !self.greeted.get() {
+                self.greeted.set(true);
+                let _ = eprintln!(self.rt; "{GREETING}");
+            }
         }
     }
 
@@ -261,6 +286,12 @@ impl Display for Progress {
             Work::Compacting => write!(
                 f,
                 "compact: {} games, {}% read",
+                self.copied,
+                self.percent()
+            ),
+            Work::Mending => write!(
+                f,
+                "mending: {} games, {}% read",
                 self.copied,
                 self.percent()
             ),

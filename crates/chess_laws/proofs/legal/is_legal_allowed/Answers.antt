@@ -9,9 +9,8 @@ returns-then-stays_safe c =
     let p = c.args.p.now in
     let case : Case p c.args.m.now (effect_of p c.args.m.now) = rw c.requires.effect at c.requires.allowed in
     let both = and_parts c.args.shut (is_calm c.args.effect) (sym c.stays_safe.ensures ∙ c.if-stays_safe.true) in
-    let shut = OnTrue_at both.0 c.requires.shut in
     let legal =
-    legal-calm p c.args.m.now c.args.king c.requires.sound c.requires.king case (rw c.requires.effect at both.1) shut.unchecked shut.covers in
+    legal-calm p c.args.m.now c.args.king c.requires.sound c.requires.king case (rw c.requires.effect at both.1) (OnTrue_at both.0 c.requires.shut) in
     ((λ h. legal), (λ h. c.if-stays_safe.true))
 
 pub returns-else-stays_safe : goal.returns-else-stays_safe

@@ -1,5 +1,5 @@
--- What came and what was opened tell of check.
-use Rattle.chess_laws.proofs.Words.{◌≡◌, ◌↔◌, ◌⊎◌, IsTrue, true, sym, ◌∙◌, ap, subst, OnFalse_at, Attacks, in_check, Hits, after, effect_of, OnFalse, counts_of}
+-- The man that came, if he leaps, and those who slide tell of check.
+use Rattle.chess_laws.proofs.Words.{◌≡◌, ◌↔◌, ◌⊎◌, IsTrue, sym, ◌∙◌, ap, subst, in_check, Hits, SlidesTo, after, effect_of, OnFalse, counts_of}
 use Rattle.chess_laws.proofs.Counting.{counts-after}
 use Rattle.chess_laws.proofs.Opening.{check-told}
 use Rattle.chess_laws.proofs.making.make.Goals as goal
@@ -10,11 +10,8 @@ returns-clause-check c =
     let m = c.args.m.now in
     let next : c.change_as-come.new.p ≡ after p m (effect_of p m) = c.change_as-come.ensures.becomes ∙ ap (after p m) c.requires.effect in
     let told =
-    subst (λ q. IsTrue c.gives_check.result ↔ (Hits q.board p.side m.to c.args.resting ⊎ ((c.may_open-opened.result ≡ true) × Attacks q.board p.side c.args.resting)))
-    next c.gives_check.ensures in
-    check-told p m c.args.resting c.may_open-opened.result c.gives_check.result c.requires.sound c.requires.legal c.requires.resting
-    (λ shut. rw c.requires.effect at (OnFalse_at shut c.may_open-opened.ensures)) told
-    ∙ ap in_check (sym next)
+    subst (λ q. IsTrue c.gives_check.result ↔ (Hits q.board p.side m.to c.args.resting ⊎ SlidesTo q.board p.side c.args.resting)) next c.gives_check.ensures in
+    check-told p m c.args.resting c.gives_check.result c.requires.sound c.requires.legal c.requires.resting told ∙ ap in_check (sym next)
 
 pub returns-clause-census : goal.returns-clause-census
 returns-clause-census c =

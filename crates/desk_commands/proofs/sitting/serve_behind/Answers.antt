@@ -3,6 +3,7 @@ use Rattle.std.specs.Prelude.{IfErr}
 use Rattle.command_runs.specs.Endings.{Serves}
 use Rattle.script_text.specs.Tasks.{task}
 use Rattle.shell_commands.specs.Tasks.{BrokenTask, SettledTask, tasks}
+use Rattle.shell_state.specs.Ends.{Unsaid}
 use Rattle.shell_state.specs.Stands.{Stands}
 use Rattle.tagged_text.proofs.Texts.{said_begun}
 use Rattle.tagged_text.specs.Rendered.{Opening, no_text, said}
@@ -28,3 +29,13 @@ returns-clause-settled g c = λ s text st told.
     let Q : _ → Type 0 = λ k. S (no_text o.told) (said o (g.K.Sink.taken k) c.serve-result.new.out.page.now) in
     let R : Waiting → Type 0 = λ p. S (no_text o.told) (said o (g.K.Sink.taken c.close.result.out.now) p) in
     subst R (sym c.close.ensures.page) (subst Q (sym c.close.ensures.out) (subst P begun (c.serve-result.ensures.settled s text st told)))
+
+pub returns-clause-unsaid : goal.returns-clause-unsaid
+returns-clause-unsaid g c = λ late.
+    let o : Opening = g.O.Opens.opening in
+    let begun = said_begun o (g.K.Sink.taken c.open-sink.result.out.now) c.open-sink.result.page.now c.open-sink.ensures.told c.open-sink.ensures.nothing in
+    let S : Option (List ℕ) → Option (List ℕ) → Type 0 = λ first last. IfErr c.serve-result.result (λ e. Unsaid e first last) in
+    let P : Option (List ℕ) → Type 0 = λ first. S first (said o (g.K.Sink.taken c.serve-result.new.out.out.now) c.serve-result.new.out.page.now) in
+    let Q : _ → Type 0 = λ k. S (no_text o.told) (said o (g.K.Sink.taken k) c.serve-result.new.out.page.now) in
+    let R : Waiting → Type 0 = λ p. S (no_text o.told) (said o (g.K.Sink.taken c.close.result.out.now) p) in
+    subst R (sym c.close.ensures.page) (subst Q (sym c.close.ensures.out) (subst P begun (c.serve-result.ensures.unsaid late)))

@@ -803,3 +803,16 @@ returns-clause-sound g c =
 pub returns-clause-causes : goal.returns-clause-causes
 returns-clause-causes g c =
     c.in_ok-serve_client.ensures.causes
+
+pub returns-in_err-gather-clause-unsaid : goal.returns-in_err-gather-clause-unsaid
+returns-in_err-gather-clause-unsaid g c = λ late.
+    let p = err_from_is_err_and c.from_residual.result c.from_residual.ensures.1 in rw (p.1, p.2) (λ is. refl)
+
+pub returns-in_err-serve_client-clause-unsaid : goal.returns-in_err-serve_client-clause-unsaid
+returns-in_err-serve_client-clause-unsaid g c = λ late.
+    let p = err_from_is_err_and c.from_residual-in_err-serve_client.result c.from_residual-in_err-serve_client.ensures.1 in
+    rw (p.1, p.2) (c.in_err-serve_client.ensures.unsaid late)
+
+pub returns-in_err-bring-clause-unsaid : goal.returns-in_err-bring-clause-unsaid
+returns-in_err-bring-clause-unsaid g c = λ late.
+    let p = err_from_is_err_and c.from_residual-in_err-bring.result c.from_residual-in_err-bring.ensures.1 in rw (p.1, p.2) (λ is. cc)

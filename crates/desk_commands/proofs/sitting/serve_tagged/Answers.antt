@@ -5,10 +5,11 @@ use Rattle.command_runs.specs.Counts.{Causes, counts}
 use Rattle.script_text.specs.Tasks.{task}
 use Rattle.shell_commands.specs.Tasks.{BrokenTask, tasks}
 use Rattle.shell_commands.specs.Watching.{ViewsDone}
+use Rattle.shell_state.specs.Ends.{Unsaid}
 use Rattle.shell_state.specs.Stands.{Sound, Stands, WhyHalt}
 use Rattle.tagged_text.specs.Tagged.{tagged}
-use Rattle.desk_commands.proofs.ServeLaws.{ended_both, ended_broken, ended_causes, ended_done, serving_broken, serving_carries, serving_halted, serving_settled, serving_stands, serving_written, tagged_settled}
-use Rattle.desk_commands.proofs.TagLaws.{tag_halted, tag_lost, tag_written}
+use Rattle.desk_commands.proofs.ServeLaws.{ended_both, ended_broken, ended_causes, ended_done, ended_unsaid, serving_broken, serving_carries, serving_halted, serving_settled, serving_stands, serving_written, tagged_settled}
+use Rattle.desk_commands.proofs.TagLaws.{tag_halted, tag_lost, tag_unsaid, tag_written}
 use Rattle.desk_commands.proofs.sitting.serve_tagged.Goals as goal
 use Rattle.desk_commands.specs.Doing.{ended}
 
@@ -120,4 +121,16 @@ returns-clause-causes g c =
     let f = c.flush-flushed.result in
     let rendered = c.serve_behind-way.ensures.rendered in
     let whole = subst (λ x. Causes WhyHalt x (counts (g.F.Files.faults c.args.files.now) (g.B.Source.faults c.args.body.now) (g.K.Sink.faults c.args.out.now)) (counts (g.F.Files.faults c.serve_behind-way.new.files) (g.B.Source.faults c.serve_behind-way.new.body) (g.K.Sink.faults c.flush-flushed.new.out))) (sym c.ended.ensures.ended) (ended_causes r f _ told _ _ page _ _ _ _ rendered c.serve_behind-way.ensures.causes c.flush-flushed.ensures.causes) in
+    search (rules, whole)
+
+pub returns-clause-unsaid : goal.returns-clause-unsaid
+returns-clause-unsaid g c = λ late.
+    let told = g.K.Sink.taken c.serve_behind-way.result.0.out.now in
+    let told' = g.K.Sink.taken c.flush-flushed.new.out in
+    let page = c.serve_behind-way.result.0.page.now in
+    let r = c.serve_behind-way.result.1 in
+    let f = c.flush-flushed.result in
+    let first = g.K.Sink.taken c.args.out.now in
+    let same = tag_unsaid _ told told' _ page c.serve_behind-way.ensures.rendered in
+    let whole = subst (λ x. IfErr x (λ e. Unsaid e first told')) (sym c.ended.ensures.ended) (ended_unsaid r f _ _ _ _ first told' c.flush-flushed.ensures.causes (λ none. same none c.flush-flushed.ensures.halted) (c.serve_behind-way.ensures.unsaid late)) in
     search (rules, whole)

@@ -3,7 +3,7 @@ use Rattle.edit_commands.proofs.SaveLaws.{saved_carry}
 use Rattle.edit_commands.proofs.saving.save.Goals as goal
 use Rattle.edit_commands.specs.Saving.{saved_line, save_work}
 use Rattle.shell_state.proofs.CarryLaws.{if_err, settled_of}
-use Rattle.shell_state.proofs.Served.{line_serves}
+use Rattle.shell_state.proofs.Served.{line_serves, on_ok}
 
 pub returns-in_err-line-clause-carries : goal.returns-in_err-line-clause-carries
 returns-in_err-line-clause-carries g c = λ s st.
@@ -23,3 +23,6 @@ returns-clause-carries g c = λ s st.
 pub returns-clause-settled : goal.returns-clause-settled
 returns-clause-settled g c = λ s st.
     if_err c.write_line.result _ (settled_of c.save_files.new.machine (g.F.Files.seen c.save_files.new.files) _ _ _ (c.in_default.ensures.stands s st))
+
+pub returns-clause-saved : goal.returns-clause-saved
+returns-clause-saved g c = on_ok _ c.write_line.result c.in_default.ensures.saved

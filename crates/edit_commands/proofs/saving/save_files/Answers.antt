@@ -1,6 +1,6 @@
 use Rattle.std.proofs.Common.{sym, subst}
 use Rattle.base_core.specs.Represents.{Kept}
-use Rattle.base_core.specs.Saved.{MeansIt}
+use Rattle.base_core.specs.Saved.{IsSaved, MeansIt}
 use Rattle.block_store.specs.Placing.{IsEnd}
 use Rattle.edit_commands.proofs.SaveLaws.{save_stands, saved_sound, unsaved_carry}
 use Rattle.edit_commands.proofs.saving.save_files.Goals as goal
@@ -29,3 +29,6 @@ returns-clause-sound g c =
     let at = subst (λ (k : Kept). IsEnd k.end seen') c.in_default.ensures.kept c.save.ensures.at_end in
     subst (λ (k : Kept). Sound (held_by k (tables_with c.machine.inside.index c.machine.inside.slots.watches) c.machine.inside.seat.filter c.machine.inside.seat.saved.items) seen') (sym c.in_default.ensures.kept)
     (saved_sound c.machine.inside.base (tables_with c.machine.inside.index c.machine.inside.slots.watches) c.machine.inside.seat.filter c.machine.inside.seat.saved.items (g.F.Files.seen c.args.files.now) seen' sound at)
+
+pub returns-clause-saved : goal.returns-clause-saved
+returns-clause-saved g c = subst (λ (h : Holding). IsSaved h.kept (g.F.Files.seen c.args.files.now) (g.F.Files.seen c.save.new.files)) c.machine.view_is c.in_default.ensures.saved

@@ -11,4 +11,4 @@ returns-in-Ok-clause-first g c = λ told list game same holds there.
     let T : List ℕ → Type 0 = λ b. Tells (record_told games (extent_in extents c.args.i)) b in
     let tells = subst T (sym c.split_at.ensures.front) c.in_ok-len.ensures.bytes in
     let read = game_read games told extents (g.G.Games.sigs c.args.games.now) list c.args.i game c.split_at.result.0.now same holds c.requires.game there tells in
-    c.in-Ok.ensures.first read.0 game read.1
+    c.in-Ok.ensures.first read.0 game read.1 (holds.each c.args.i c.brief.result game c.brief.ensures.kept there).is_sig

@@ -1,10 +1,15 @@
-use Rattle.std.proofs.Common.{take, ap}
+use Rattle.std.proofs.Common.{◌≡◌, ℕ, is_some, if◌then◌else◌, IfSome, take, ap}
 use Rattle.base_files.specs.Seen.{Seen}
 use Rattle.mend_base.specs.Finding.{Finds}
+use Rattle.mend_base.specs.Keeping.{MendsNext}
 use Rattle.mend_base.specs.declared.finding.Find.TheVariants as find
-use Rattle.mend_base.proofs.DeviceLaws.{on-ok-so, stopped-weaker}
+use Rattle.mend_base.proofs.DeviceLaws.{if-ok-so, stopped-weaker}
+use Rattle.mend_base.proofs.EntryLaws.{found-there}
 use Rattle.mend_base.proofs.MendLaws.{filled-told, kept-told, left-out-told}
 use Rattle.mend_base.proofs.keeping.mend_game.Goals as goal
+
+pub find_game-requires-clause-there : goal.find_game-requires-clause-there
+find_game-requires-clause-there g c = found-there c.args.source.now.index.now c.args.game c.requires.there
 
 pub returns-in-Err-keep_game-clause-why : goal.returns-in-Err-keep_game-clause-why
 returns-in-Err-keep_game-clause-why g c =
@@ -13,7 +18,7 @@ returns-in-Err-keep_game-clause-why g c =
     let told = (g.F.Files.seen c.args.old.now).games in
     let found : Finds index names told c.args.game c.find_game.new.buf (find.Whole c.in-Ok-Whole.kept c.in-Ok-Whole.missing) = rw c.in-Ok-Whole.field-0-is at c.in-Ok-Whole.ensures.found in
     stopped-weaker _ _
-    (λ what full. filled-told told c.args.game index names (g.R.Report.told c.args.report.now) c.args.draft.now (g.N.Files.seen c.args.new.now).fresh c.in-Ok-Whole.kept c.in-Ok-Whole.missing what found.1 full)
+    (λ what full. filled-told told c.args.game index names (g.R.Report.told c.args.report.now) c.args.draft.now (g.N.Files.seen c.args.new.now).fresh c.in-Ok-Whole.kept c.in-Ok-Whole.missing what c.requires.there found.1 full)
     c.in-Err-keep_game.error c.in-Err-keep_game.ensures.why
 
 pub returns-in_default-clause-mended : goal.returns-in_default-clause-mended
@@ -24,17 +29,15 @@ returns-in_default-clause-mended g c =
     let kept = c.in-Ok-Whole.kept in
     let found : Finds index names told c.args.game c.find_game.new.buf (find.Whole kept c.in-Ok-Whole.missing) = rw c.in-Ok-Whole.field-0-is at c.in-Ok-Whole.ensures.found in
     let added = ap (λ (s : Seen). s.fresh) c.in_default.ensures.added in
-    on-ok-so _ _ c.tell_missing.result
-    (λ tells. kept-told told c.args.game index names (g.R.Report.told c.args.report.now) (g.R.Report.told c.tell_missing.new.report) c.args.draft.now c.keep_game.new.draft (g.N.Files.seen c.args.new.now).fresh
-    (g.N.Files.seen c.keep_game.new.new).fresh kept c.in-Ok-Whole.missing (take kept.len c.find_game.new.buf) found.1 found.0 c.in_default.ensures.taken c.in_default.ensures.grown c.in_default.ensures.names added tells)
-    c.tell_missing.ensures.told
+    if-ok-so _ (λ (changed : ℕ). changed ≡ (if is_some c.in-Ok-Whole.missing then 1 else 0)) _ c.tell_missing.result
+    (λ changed tells one. kept-told told c.args.game index names (g.R.Report.told c.args.report.now) (g.R.Report.told c.tell_missing.new.report) changed c.args.draft.now c.keep_game.new.draft (g.N.Files.seen c.args.new.now).fresh
+    (g.N.Files.seen c.keep_game.new.new).fresh kept c.in-Ok-Whole.missing (take kept.len c.find_game.new.buf) found.1 found.0 c.in_default.ensures.taken c.in_default.ensures.grown c.in_default.ensures.names added tells one)
+    c.tell_missing.ensures.told c.tell_missing.ensures.changed
 
-pub returns-in-Ok-Broken-clause-mended : goal.returns-in-Ok-Broken-clause-mended
-returns-in-Ok-Broken-clause-mended g c =
+pub returns-in_default-tell-clause-mended : goal.returns-in_default-tell-clause-mended
+returns-in_default-tell-clause-mended g c =
     let index = c.args.source.now.index.now in
     let names = c.args.source.now.names.now in
     let told = (g.F.Files.seen c.args.old.now).games in
     let found : Finds index names told c.args.game c.find_game.new.buf (find.Broken c.in-Ok-Broken.fault) = rw c.in-Ok-Broken.field-0-is at c.in-Ok-Broken.ensures.found in
-    on-ok-so _ _ c.tell.result
-    (λ tells. left-out-told told c.args.game index names (g.R.Report.told c.args.report.now) _ c.args.draft.now (g.N.Files.seen c.args.new.now).fresh c.in-Ok-Broken.fault found tells)
-    c.tell.ensures.told
+    left-out-told told c.args.game index names (g.R.Report.told c.args.report.now) _ c.args.draft.now (g.N.Files.seen c.args.new.now).fresh c.in-Ok-Broken.fault found c.in_default-tell.ensures.told

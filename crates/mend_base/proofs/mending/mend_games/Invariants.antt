@@ -1,5 +1,6 @@
 use Rattle.std.proofs.Common.{◌≡◌, ◌≤◌, ◌+◌, length, IfSome}
 use Rattle.base_files.specs.Seen.{FreshAlone}
+use Rattle.mend_base.specs.Entries.{entries_found}
 use Rattle.mend_base.specs.Finding.{entries_cost}
 use Rattle.mend_base.specs.Mending.{HasMended}
 use Rattle.mend_base.proofs.mending.mend_games.Given as goal
@@ -8,9 +9,10 @@ use Rattle.mend_base.proofs.mending.mend_games.Given as goal
 abbrev pub invariant-loop-game : goal.invariant-loop-game
 invariant-loop-game g l = record {
   mended : IfSome (g.F.Files.seen l.fn.old).games (λ games.
-      HasMended l.game l.fn.header l.fn.source.index.now l.fn.source.names.now games (g.R.Report.told l.fn.report) (g.R.Report.told l.report) l.draft (g.N.Files.seen l.new).fresh);
+      HasMended l.game l.fn.header l.fn.source.index.now l.fn.source.names.now games (g.R.Report.told l.fn.report) (g.R.Report.told l.report) l.changed l.draft (g.N.Files.seen l.new).fresh);
   few : length l.draft.entries ≤ l.game;
-  within : l.game ≤ l.fn.header.games;
+  small : l.changed ≤ l.game;
+  within : l.game ≤ entries_found l.fn.source.index.now;
   alone : FreshAlone (g.N.Files.seen l.fn.new) (g.N.Files.seen l.new);
   unchanged : g.F.Files.seen l.old ≡ g.F.Files.seen l.fn.old;
   asks : g.F.Files.asked l.old ≤ g.F.Files.asked l.fn.old + entries_cost l.fn.source.index.now l.game;

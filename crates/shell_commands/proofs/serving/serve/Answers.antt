@@ -1,10 +1,10 @@
-use Rattle.std.proofs.Common.{◌≤◌, ◌+◌, Ok, sym, subst}
+use Rattle.std.proofs.Common.{◌≤◌, ◌+◌, Ok, ap, sym, subst, ◌∙◌}
 use Rattle.command_runs.specs.Endings.{Serves}
 use Rattle.script_text.specs.Tasks.{Order, task}
 use Rattle.shell_commands.proofs.TaskLaws.{asked_by, task_serves}
 use Rattle.shell_commands.proofs.ViewLaws.{fault_done}
 use Rattle.shell_commands.proofs.serving.serve.Goals as goal
-use Rattle.shell_commands.specs.Tasks.{BrokenTask, order_price, tasks}
+use Rattle.shell_commands.specs.Tasks.{BrokenTask, order_price, tasks, writes_early}
 use Rattle.shell_state.proofs.CarryLaws.{carry_of, if_err}
 use Rattle.shell_state.proofs.Served.{on_ok}
 use Rattle.shell_state.specs.Stands.{Stands}
@@ -38,3 +38,6 @@ returns-in-Ok-clause-settled g c = λ s text st told. rw c.in-Ok.is (c.serve_com
 
 pub returns-in-Err-clause-settled : goal.returns-in-Err-clause-settled
 returns-in-Err-clause-settled g c = λ s text st told. rw c.in-Err.is (if_err c.say.result _ tt)
+
+pub returns-in-Ok-clause-unsaid : goal.returns-in-Ok-clause-unsaid
+returns-in-Ok-clause-unsaid g c = λ late. c.serve_command.ensures.unsaid (ap writes_early (sym c.in-Ok.is) ∙ late)

@@ -1,7 +1,8 @@
-use Rattle.std.proofs.Common.{[], ap, sym, true≢false, ◌∙◌}
+use Rattle.std.proofs.Common.{[], Ok, ap, sym, true≢false, ◌∙◌}
 use Rattle.shell_commands.proofs.TaskLaws.{may_leave, still_settled}
 use Rattle.shell_commands.proofs.ViewLaws.{edits_write, is_import}
 use Rattle.shell_commands.proofs.serving.serve_command.Goals as goal
+use Rattle.shell_commands.specs.Tasks.{writes_early}
 use Rattle.shell_state.proofs.CarryLaws.{carry_of, carry_same, if_err}
 use Rattle.view_commands.specs.Views.{all_slots}
 
@@ -101,3 +102,8 @@ returns-in-Edits-clause-settled g c = λ s text st told. c.serve_edit.ensures.se
 
 pub returns-in-Texts-clause-settled : goal.returns-in-Texts-clause-settled
 returns-in-Texts-clause-settled g c = λ s text st told. c.write_text.ensures.settled c.args.window s text st
+
+pub returns-in-Intake-clause-unsaid : goal.returns-in-Intake-clause-unsaid
+returns-in-Intake-clause-unsaid g c = λ late.
+    let i = is_import c.args.command.now (sym c.in-Intake.ensures.part) in
+    absurd (true≢false (sym (ap (λ command. writes_early (Ok command)) i.1) ∙ late))

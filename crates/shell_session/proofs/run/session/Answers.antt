@@ -8,7 +8,7 @@ use Rattle.shell_session.specs.Words.{Wanted, words_read}
 use Rattle.shell_session.specs.declared.status.Status.{Status}
 use Rattle.shell_session.specs.declared.status.Status.TheVariants.{Done, Memory, Usage}
 use Rattle.shell_session.specs.Stops.{status_of}
-use Rattle.shell_session.proofs.AnswerLaws.{chooses_running, chosen, due_of, line_session, opened_by, part_session, stays_line, stays_running, why_line, why_running, whole_session, reads_line, stop_interrupts, words_refused, words_running}
+use Rattle.shell_session.proofs.AnswerLaws.{chooses_running, chosen, due_of, line_session, opened_by, part_session, stays_line, stays_running, stays_same, why_line, why_running, whole_session, reads_line, stop_interrupts, words_refused, words_running}
 use Rattle.shell_session.proofs.PriceLaws.{asks_opening, asks_script}
 use Rattle.shell_session.proofs.ViewLaws.{meanings_few, none_told}
 use Rattle.shell_session.proofs.run.session.Goals as goal
@@ -134,6 +134,14 @@ returns-in-Err-write_opening-clause-silent g c =
 
 pub returns-clause-silent : goal.returns-clause-silent
 returns-clause-silent g c = stays_running c.in-Err-run_script.status _ _ c.in-Err-run_script.ensures.kept.ends
+
+pub returns-in-Err-write_opening-clause-untouched : goal.returns-in-Err-write_opening-clause-untouched
+returns-in-Err-write_opening-clause-untouched g c =
+    let views = meanings (λ b. (goal.TreeView-dyn g (b.vtable, b.value)).rows b.value) (λ b. (goal.TreeView-dyn g (b.vtable, b.value)).told b.value) c.args.views.now.items in
+    stays_same c.from.result views
+
+pub returns-clause-untouched : goal.returns-clause-untouched
+returns-clause-untouched g c = stays_running c.in-Err-run_script.status _ _ c.in-Err-run_script.ensures.kept.ends
 
 pub returns-in-Ok-run_script-clause-opened : goal.returns-in-Ok-run_script-clause-opened
 returns-in-Ok-run_script-clause-opened g c = λ taken. opened_by _ _ _ c.games.result c.in-Ok.opened.1 c.in_default-write_opening.ensures.written c.run_script.ensures.none_lost

@@ -1,5 +1,0 @@
-//! Tests alone: devices in memory.
-#![tactic(auto)]
-
-#[cfg(test)]
-mod device_tests;

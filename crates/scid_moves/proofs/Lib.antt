@@ -1,0 +1,5 @@
+pub mod AnswerLaws
+pub mod LineLaws
+pub mod MoveLaws
+pub mod ServingLaws
+pub mod StandingLaws

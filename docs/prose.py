@@ -1,0 +1,141 @@
+#!/usr/bin/env python3
+"""docs/prose.py: counts what makes a page hard to read.
+
+Counted are sentences of more than 40 words, lines of more than 200 characters outside of tables and code, and some turns of phrase.
+A word is what stands between spaces, and a piece of code is one word.
+
+Usage: docs/prose.py [PAGE..]   the numbers of each page, and where each of them stands for the pages that are named
+
+LEFT has what each page may have for now: sentences, lines, turns. docs/check.py fails above that. Lower a number when you rewrite a page.
+A page that is not in it has none. CHANGELOG.md is a history, and is not counted."""
+import pathlib
+import re
+import sys
+
+TOP = pathlib.Path(__file__).resolve().parent.parent
+MOST_WORDS, MOST_CHARACTERS = 40, 200
+TURNS = re.compile(
+    r"\bit says so\b|\bthat is said\b|\bwhat comes over\b|\bwhere (?:it|they|one|that|these) (?:is|are|does|do) not\b"
+    r"|\bwhere that can't be\b|\bOf what (?:stands|stood|is)\b|\b[Hh]e\b|\b[Hh]is\b"
+)
+LEFT = {
+    "CONTRIBUTING.md": (2, 12, 0),
+    "README.md": (5, 15, 0),
+    "docs/BOARD.md": (1, 8, 0),
+    "docs/COMMANDS.md": (2, 21, 0),
+    "docs/FEN.md": (1, 0, 1),
+    "docs/FILTERS.md": (2, 0, 0),
+    "docs/INDEX_FILE.md": (2, 0, 0),
+    "docs/MAINTAINING.md": (4, 14, 13),
+    "docs/MENDING.md": (3, 12, 0),
+    "docs/NAMES_FILE.md": (2, 0, 0),
+    "docs/PACKED_MOVES.md": (1, 0, 1),
+    "docs/PAGES.md": (5, 20, 0),
+    "docs/PGN.md": (2, 0, 0),
+    "docs/PROGRAMS.md": (1, 10, 0),
+    "docs/PROVED.md": (1, 15, 0),
+    "docs/SAN.md": (1, 0, 0),
+    "docs/SESSION.md": (1, 14, 0),
+    "docs/speed/adding.md": (2, 3, 0),
+    "docs/speed/board.md": (0, 2, 0),
+    "docs/speed/compacting.md": (3, 3, 0),
+    "docs/speed/crosstables.md": (1, 1, 0),
+    "docs/speed/eco.md": (1, 2, 0),
+    "docs/speed/export.md": (1, 2, 0),
+    "docs/speed/filter.md": (1, 0, 0),
+    "docs/speed/find.md": (7, 8, 0),
+    "docs/speed/import.md": (4, 6, 0),
+    "docs/speed/index.md": (0, 1, 0),
+    "docs/speed/indexed.md": (2, 4, 1),
+    "docs/speed/material.md": (1, 5, 0),
+    "docs/speed/names.md": (3, 0, 0),
+    "docs/speed/opening.md": (2, 8, 0),
+    "docs/speed/page.md": (2, 4, 0),
+    "docs/speed/perft.md": (16, 16, 1),
+    "docs/speed/pgn.md": (5, 6, 2),
+    "docs/speed/position_index.md": (0, 3, 0),
+    "docs/speed/positions.md": (0, 5, 0),
+    "docs/speed/records.md": (1, 9, 0),
+    "docs/speed/san.md": (0, 2, 0),
+    "docs/speed/script.md": (0, 1, 0),
+    "docs/speed/search_header.md": (0, 1, 0),
+    "docs/speed/tree.md": (1, 4, 0),
+    "docs/speed/twins.md": (0, 1, 0),
+    "docs/speed/views.md": (2, 6, 0),
+}
+
+
+def pages():
+    return [it for it in [TOP / "README.md", TOP / "CONTRIBUTING.md", *sorted(TOP.glob("docs/**/*.md"))] if it.exists()]
+
+
+def plain(text):
+    """A text with each piece of code and each link as its words."""
+    text = re.sub(r"``.*?``|`[^`]*`", "code", text)
+    return re.sub(r"!?\[([^\]]*)\]\([^)]*\)", r"\1", text)
+
+
+def blocks(page):
+    """The texts of a page, each with the number of its first line: a paragraph, an item of a list, a heading, a cell of a table."""
+    found, code = [], False
+    for number, line in enumerate(page.read_text().splitlines(), 1):
+        if line.lstrip().startswith("```"):
+            code = not code
+        elif code:
+            continue
+        elif line.startswith("|"):
+            found += [(number, it) for it in line.strip("|").split("|")] + [(number, "")]
+        elif not line.strip() or re.match(r"\s*(?:[-*>#]|\d+\.) ?", line) or not found or not found[-1][1].strip():
+            found.append((number, line))
+        else:
+            found[-1] = (found[-1][0], found[-1][1] + " " + line.strip())
+    return found
+
+
+def long_sentences(page):
+    for number, text in blocks(page):
+        for sentence in re.split(r"(?<=[.!?])\s+", plain(text)):
+            if len(sentence.split()) > MOST_WORDS:
+                yield number, sentence.strip()
+
+
+def long_lines(page):
+    code = False
+    for number, line in enumerate(page.read_text().splitlines(), 1):
+        code ^= line.lstrip().startswith("```")
+        if len(line) > MOST_CHARACTERS and not code and not line.startswith("|"):
+            yield number, line
+
+
+def turns(page):
+    for number, text in blocks(page):
+        for found in TURNS.findall(plain(text)):
+            yield number, found
+
+
+COUNTED = [("sentences of more than 40 words", long_sentences), ("lines of more than 200 characters", long_lines), ("turns of phrase", turns)]
+
+
+def name_of(page):
+    return str(page.relative_to(TOP))
+
+
+def faults():
+    for page in pages():
+        for (what, count), left in zip(COUNTED, LEFT.get(name_of(page), (0, 0, 0))):
+            if len(there := [*count(page)]) > left:
+                yield f"{name_of(page)}: {len(there)} {what}, where {left} may be left (docs/prose.py {name_of(page)})"
+
+
+def main():
+    for page in pages():
+        there = [[*count(page)] for _, count in COUNTED]
+        if any(there):
+            print(f'    "{name_of(page)}": ({", ".join(str(len(it)) for it in there)}),')
+        if name_of(page) in sys.argv[1:]:
+            for number, text in (it for them in there for it in them):
+                print(f"{name_of(page)}:{number}: {text[:160]}")
+
+
+if __name__ == "__main__":
+    main()
