@@ -13,55 +13,27 @@ import re
 import sys
 
 TOP = pathlib.Path(__file__).resolve().parent.parent
-MOST_WORDS, MOST_CHARACTERS, MOST_LINES = 40, 200, 4500
+MOST_WORDS, MOST_CHARACTERS, MOST_LINES = 40, 200, 3774
 TURNS = re.compile(
     r"\bit says so\b|\bthat is said\b|\bwhat comes over\b|\bwhere (?:it|they|one|that|these) (?:is|are|does|do) not\b"
     r"|\bwhere that can't be\b|\bOf what (?:stands|stood|is)\b|\b[Hh]e\b|\b[Hh]is\b"
 )
 LEFT = {
-    "CONTRIBUTING.md": (2, 12, 0),
-    "README.md": (5, 15, 0),
-    "docs/BOARD.md": (1, 8, 0),
-    "docs/COMMANDS.md": (2, 21, 0),
-    "docs/FEN.md": (1, 0, 1),
+    "docs/COMMANDS.md": (1, 0, 0),
     "docs/FILTERS.md": (2, 0, 0),
-    "docs/INDEX_FILE.md": (2, 0, 0),
-    "docs/MAINTAINING.md": (4, 14, 13),
-    "docs/MENDING.md": (3, 12, 0),
-    "docs/NAMES_FILE.md": (2, 0, 0),
-    "docs/PACKED_MOVES.md": (1, 0, 1),
-    "docs/PAGES.md": (5, 20, 0),
+    "docs/INDEX_FILE.md": (1, 0, 0),
+    "docs/MENDING.md": (0, 9, 0),
+    "docs/PACKED_MOVES.md": (1, 0, 0),
+    "docs/PAGES.md": (0, 17, 0),
     "docs/PGN.md": (2, 0, 0),
-    "docs/PROGRAMS.md": (1, 10, 0),
-    "docs/PROVED.md": (1, 15, 0),
-    "docs/SAN.md": (1, 0, 0),
-    "docs/SESSION.md": (1, 14, 0),
-    "docs/speed/adding.md": (2, 3, 0),
-    "docs/speed/board.md": (0, 2, 0),
-    "docs/speed/compacting.md": (3, 3, 0),
-    "docs/speed/crosstables.md": (1, 1, 0),
-    "docs/speed/eco.md": (1, 2, 0),
-    "docs/speed/export.md": (1, 2, 0),
-    "docs/speed/filter.md": (1, 0, 0),
     "docs/speed/find.md": (7, 8, 0),
     "docs/speed/import.md": (4, 6, 0),
-    "docs/speed/index.md": (0, 1, 0),
-    "docs/speed/indexed.md": (2, 4, 1),
-    "docs/speed/material.md": (1, 5, 0),
-    "docs/speed/names.md": (3, 0, 0),
     "docs/speed/opening.md": (2, 8, 0),
     "docs/speed/page.md": (2, 4, 0),
     "docs/speed/perft.md": (16, 16, 1),
     "docs/speed/pgn.md": (5, 6, 2),
-    "docs/speed/position_index.md": (0, 3, 0),
     "docs/speed/positions.md": (0, 5, 0),
     "docs/speed/records.md": (1, 9, 0),
-    "docs/speed/san.md": (0, 2, 0),
-    "docs/speed/script.md": (0, 1, 0),
-    "docs/speed/search_header.md": (0, 1, 0),
-    "docs/speed/tree.md": (1, 4, 0),
-    "docs/speed/twins.md": (0, 1, 0),
-    "docs/speed/views.md": (2, 6, 0),
 }
 
 
@@ -90,7 +62,7 @@ def blocks(page):
     for number, line in own_lines(page):
         if line.lstrip().startswith("```"):
             code = not code
-        elif code:
+        elif code or line.startswith("    "):
             continue
         elif line.startswith("|"):
             found += [(number, it) for it in line.strip("|").split("|")] + [(number, "")]
@@ -112,7 +84,7 @@ def long_lines(page):
     code = False
     for number, line in own_lines(page):
         code ^= line.lstrip().startswith("```")
-        if len(line) > MOST_CHARACTERS and not code and not line.startswith("|"):
+        if len(line) > MOST_CHARACTERS and not code and not line.startswith(("|", "    ")):
             yield number, line
 
 
