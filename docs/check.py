@@ -5,7 +5,7 @@
   memory has a clause that holds behind it.
 - Each clause that the table of the session names in docs/CLAIMS.md is one of its own, and each definition is one of the repository.
 - A word of a page is defined in the file of specs/ that stands in brackets behind it.
-- Each case, test and script that docs/TESTED.md names is there, and so is each page, folder and file that a page links to.
+- Each case, test and script that docs/TESTED.md names is there, and so is each page, folder and file that a page names or links to.
 - The wrong bodies that docs/MAINTAINING.md names are there, and all are within its numbers.
 - Of each crate that crates.txt gives a crate, some file of it names something.
 - docs/DESIGN.md has a row for each crate, on a floor above all that it names, as docs/house.py finds.
@@ -82,6 +82,15 @@ def broken_links():
                     yield f"{prose.name_of(page)}:{number}: {other.name} has no heading {heading}"
 
 
+def absent_paths():
+    """Files and folders of the repository that a page names in code, from its top, and that are not there. What a build makes is not looked for."""
+    for page in prose.pages():
+        for number, line in prose.own_lines(page):
+            for word in re.findall(r"`(?:\./)?((?:bench|board|cases|crates|docs|samples)/[\w./*+-]+)", line):
+                if "/out" not in word and "*" not in word and not re.search(r"/[A-Z]+\b", word.removesuffix(".md")) and not (TOP / word.rstrip("/.")).exists():
+                    yield f"{prose.name_of(page)}:{number}: there is no {word}"
+
+
 def headings(page):
     """The headings of a page, as links name them."""
     found = re.findall(r"^#+ (.*)$", page.read_text(), flags=re.M)
@@ -132,7 +141,7 @@ def unnamed_crates():
 
 
 def main():
-    faults = [*unknown_claims(), *unknown_tests(), *broken_links(), *misplaced_words(), *claims.faults(), *trusted.faults()]
+    faults = [*unknown_claims(), *unknown_tests(), *broken_links(), *absent_paths(), *misplaced_words(), *claims.faults(), *trusted.faults()]
     faults += [*wrong_bodies(), *unnamed_crates(), *house.faults(), *prose.faults()]
     for fault in faults:
         print(fault)

@@ -13,15 +13,13 @@ import re
 import sys
 
 TOP = pathlib.Path(__file__).resolve().parent.parent
-MOST_WORDS, MOST_CHARACTERS, MOST_LINES = 40, 200, 3543
+MOST_WORDS, MOST_CHARACTERS, MOST_LINES = 40, 200, 3544
 TURNS = re.compile(
     r"\bit says so\b|\bthat is said\b|\bwhat comes over\b|\bwhere (?:it|they|one|that|these) (?:is|are|does|do) not\b"
     r"|\bwhere that can't be\b|\bOf what (?:stands|stood|is)\b|\b[Hh]e\b|\b[Hh]is\b"
 )
 LEFT = {
-    "docs/INDEX_FILE.md": (1, 0, 0),
     "docs/MENDING.md": (0, 9, 0),
-    "docs/PACKED_MOVES.md": (1, 0, 0),
     "docs/PAGES.md": (0, 17, 0),
     "docs/speed/find.md": (7, 8, 0),
     "docs/speed/import.md": (4, 6, 0),
@@ -72,7 +70,7 @@ def blocks(page):
 
 def long_sentences(page):
     for number, text in blocks(page):
-        for sentence in re.split(r"(?<=[.!?])\s+", plain(text)):
+        for sentence in re.split(r"(?<=[.!?])\**\s+", plain(text)):
             if len(sentence.split()) > MOST_WORDS:
                 yield number, sentence.strip()
 
