@@ -13,13 +13,12 @@ import re
 import sys
 
 TOP = pathlib.Path(__file__).resolve().parent.parent
-MOST_WORDS, MOST_CHARACTERS, MOST_LINES = 40, 200, 3516
+MOST_WORDS, MOST_CHARACTERS, MOST_LINES = 40, 200, 3517
 TURNS = re.compile(
     r"\bit says so\b|\bthat is said\b|\bwhat comes over\b|\bwhere (?:it|they|one|that|these) (?:is|are|does|do) not\b"
     r"|\bwhere that can't be\b|\bOf what (?:stands|stood|is)\b|\b[Hh]e\b|\b[Hh]is\b"
 )
 LEFT = {
-    "docs/MAINTAINING.md": (1, 0, 0),
     "docs/MENDING.md": (0, 9, 0),
     "docs/PAGES.md": (0, 17, 0),
     "docs/speed/find.md": (7, 8, 0),
