@@ -1,20 +1,24 @@
 #!/usr/bin/env python3
 """docs/house.py: the crates as floors of a house, as docs/DESIGN.md lists them.
 
-A floor is a heading below "The crates" in docs/DESIGN.md, and its rooms are the rows of the table there, from the roof down.
+docs/house.txt has the floors from the roof down, their rooms, and what each room must not know. A room is a crate. What it is for is the first
+sentence of its crate's root.
 
 Usage: docs/house.py            prints what is wrong (docs/check.py prints it too)
-       docs/house.py --write    counts the lines in the tables anew, and draws docs/house.svg
+       docs/house.py --write    prints the tables of docs/DESIGN.md anew, and draws docs/house.svg
 
 Wrong is: a crate of crates.txt without a room or with two, a crate that names one of a floor above or a crate that it "must not know",
-a number of lines that is off by more than a tenth, minutes that are not those of docs/MAINTAINING.md, and a picture that is not current."""
+a row that --write would print in other words, a number of lines that is off by more than a tenth, and a picture that is not current."""
 import html
 import pathlib
 import re
 import sys
 
 TOP = pathlib.Path(__file__).resolve().parent.parent
-PAGE, PICTURE = TOP / "docs/DESIGN.md", TOP / "docs/house.svg"
+PAGE, PICTURE, FLOORS = TOP / "docs/DESIGN.md", TOP / "docs/house.svg", TOP / "docs/house.txt"
+MARK = "<!-- Printed by docs/house.py --write from docs/house.txt and the roots of the crates. -->"
+END = "<!-- End of what is printed. -->"
+HEAD = ["| Crate | What it is for | What it must not know | Source | Definitions | Proofs | Minutes |", "|---|---|---|---|---|---|---|"]
 PARTS = [("src", ".rt"), ("specs", ".antt"), ("proofs", ".antt")]
 NAME, PURPOSE, UNKNOWN, FIRST_SIZE, MINUTES = 0, 1, 2, 3, 6
 COLOURS = ["#ece7f5", "#fbe3d6", "#fdf1d0", "#e9f3d5", "#d9f0e3", "#d8eef5", "#dbe5f7", "#e6e0f4", "#f4dfec", "#e8e8e8"]
@@ -62,6 +66,47 @@ def floors():
     return found
 
 
+def purpose(crate):
+    """The first sentence of a crate's root."""
+    source = TOP / "crates" / crate / "src"
+    root = next(it for it in (source / "lib.rt", source / "main.rt") if it.exists())
+    lines = [it.removeprefix("//!").strip() for it in root.read_text().splitlines() if it.startswith("//!")]
+    text = re.split(r"(?<=[.])\s+(?=[A-Z])|  ", " ".join(lines))[0]
+    return re.sub(r"\[(`[^`]*`)\]", r"\1", text).strip().removesuffix(".").replace("|", "\\|")
+
+
+def plan():
+    """The floors of docs/house.txt: the title of each, its sentence, and its rooms with what they must not know."""
+    found = []
+    for line in FLOORS.read_text().splitlines():
+        crate, colon, unknown = line.partition(": ")
+        if line.startswith("== "):
+            found.append((line[3:], [], []))
+        elif colon and re.fullmatch(r"\w+", crate):
+            found[-1][2].append((crate, unknown))
+        elif line.strip() and not line.startswith("#"):
+            found[-1][1].append(line)
+    return found
+
+
+def printed():
+    """The tables of the page."""
+    times = minutes()
+    yield MARK
+    for title, sentence, rooms in plan():
+        yield from ["", f"### {title}", "", *sentence, *([""] if sentence else []), *HEAD]
+        for crate, unknown in rooms:
+            cells = [f"`{crate}`", purpose(crate), unknown, *(f"{it:,}" for it in sizes(crate)), times.get(crate, "")]
+            yield "| " + " | ".join(cells).rstrip() + " |"
+    yield from ["", END]
+
+
+def words_of(line):
+    """A line of the tables without its numbers of lines."""
+    cells = cells_of(line)
+    return cells[:FIRST_SIZE] + cells[MINUTES:] if is_room(line) else line
+
+
 def crate_of(room):
     return room[NAME].strip("`")
 
@@ -78,13 +123,11 @@ def minutes():
     return {crate: told for told, crates in rows for crate in re.findall(r"`(\w+)`", crates)}
 
 
-def room_faults(room, heights, named, times):
+def room_faults(room, heights, named):
     crate = crate_of(room)
     for other in named[crate]:
         if heights.get(other, 0) > heights[crate]:
             yield f"docs/DESIGN.md: {crate} names {other}, which stands on a floor above"
-    if room[MINUTES] != times.get(crate, ""):
-        yield f"docs/DESIGN.md: {crate} takes {times.get(crate, 'at most 3')} minutes in docs/MAINTAINING.md"
     for other in set(re.findall(r"`(\w+)`", room[UNKNOWN])) & reached(crate, named):
         yield f"docs/DESIGN.md: {crate} stands on {other}, which it must not know"
     for other in set(re.findall(r"`(\w+)`", room[UNKNOWN])) - set(named):
@@ -103,9 +146,11 @@ def faults():
             yield f"docs/DESIGN.md: {listed.count(crate)} rows of {crate}"
             return
     heights = {crate_of(room): -number for number, (_, its_rooms) in enumerate(house) for room in its_rooms}
-    times = minutes()
+    there = PAGE.read_text().partition(MARK)[2].partition(END)[0].strip().splitlines()
+    if [words_of(it) for it in there] != [words_of(it) for it in [*printed()][2:-2]]:
+        yield "docs/DESIGN.md: its tables are not what docs/house.py --write prints"
     for room in rooms:
-        yield from room_faults(room, heights, named, times)
+        yield from room_faults(room, heights, named)
     if not PICTURE.exists() or PICTURE.read_text() != picture(house, named):
         yield "docs/house.svg is not what docs/house.py --write draws"
 
@@ -159,15 +204,9 @@ def picture(house, named):
 
 
 def write():
-    lines = PAGE.read_text().split("\n")
-    named = below()
-    for number, line in enumerate(lines):
-        cells = cells_of(line)
-        if is_room(line) and crate_of(cells) in named and len(cells) > FIRST_SIZE + 2:
-            cells[FIRST_SIZE : FIRST_SIZE + 3] = [f"{it:,}" for it in sizes(crate_of(cells))]
-            lines[number] = "| " + " | ".join(cells).rstrip() + " |"
-    PAGE.write_text("\n".join(lines))
-    PICTURE.write_text(picture(floors(), named))
+    text = PAGE.read_text()
+    PAGE.write_text(text.partition(MARK)[0] + "\n".join(printed()) + text.partition(END)[2])
+    PICTURE.write_text(picture(floors(), below()))
 
 
 def main():
