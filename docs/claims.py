@@ -110,8 +110,11 @@ def promises(call):
 
 def printed():
     by_crate = handed_out()
-    yield MARK
+    yield from [MARK, ""]
     for title, rooms in house.floors():
+        listed = [house.crate_of(it) for it in rooms if house.crate_of(it) in by_crate]
+        yield f"- {title}: {', '.join(f'[{it}](#{it})' for it in listed)}"
+    for _, rooms in house.floors():
         for room in rooms:
             if crate_calls := by_crate.get(house.crate_of(room)):
                 yield from ["", f"### `{house.crate_of(room)}`", "", room[house.PURPOSE][:1].upper() + room[house.PURPOSE][1:] + ".", ""]
