@@ -7,13 +7,13 @@ A word is what stands between spaces, and a piece of code is one word.
 Usage: docs/prose.py [PAGE..]   the numbers of each page, and where each of them stands for the pages that are named
 
 LEFT has what each page may have for now: sentences, lines, turns. docs/check.py fails above that. Lower a number when you rewrite a page.
-A page that is not in it has none. CHANGELOG.md is a history, and is not counted."""
+A page that is not in it has none. CHANGELOG.md is a history, and is not counted; nor is what scripts print."""
 import pathlib
 import re
 import sys
 
 TOP = pathlib.Path(__file__).resolve().parent.parent
-MOST_WORDS, MOST_CHARACTERS = 40, 200
+MOST_WORDS, MOST_CHARACTERS, MOST_LINES = 40, 200, 4500
 TURNS = re.compile(
     r"\bit says so\b|\bthat is said\b|\bwhat comes over\b|\bwhere (?:it|they|one|that|these) (?:is|are|does|do) not\b"
     r"|\bwhere that can't be\b|\bOf what (?:stands|stood|is)\b|\b[Hh]e\b|\b[Hh]is\b"
@@ -75,10 +75,19 @@ def plain(text):
     return re.sub(r"!?\[([^\]]*)\]\([^)]*\)", r"\1", text)
 
 
+def own_lines(page):
+    """The lines of a page that no script prints, each with its number."""
+    printed = False
+    for number, line in enumerate(page.read_text().splitlines(), 1):
+        printed = (printed or line.startswith("<!-- Printed")) and not line.startswith("<!-- End")
+        if not printed:
+            yield number, line
+
+
 def blocks(page):
     """The texts of a page, each with the number of its first line: a paragraph, an item of a list, a heading, a cell of a table."""
     found, code = [], False
-    for number, line in enumerate(page.read_text().splitlines(), 1):
+    for number, line in own_lines(page):
         if line.lstrip().startswith("```"):
             code = not code
         elif code:
@@ -101,7 +110,7 @@ def long_sentences(page):
 
 def long_lines(page):
     code = False
-    for number, line in enumerate(page.read_text().splitlines(), 1):
+    for number, line in own_lines(page):
         code ^= line.lstrip().startswith("```")
         if len(line) > MOST_CHARACTERS and not code and not line.startswith("|"):
             yield number, line
@@ -125,6 +134,8 @@ def faults():
         for (what, count), left in zip(COUNTED, LEFT.get(name_of(page), (0, 0, 0))):
             if len(there := [*count(page)]) > left:
                 yield f"{name_of(page)}: {len(there)} {what}, where {left} may be left (docs/prose.py {name_of(page)})"
+    if (lines := sum(len([*own_lines(it)]) for it in pages())) > MOST_LINES:
+        yield f"docs: the pages have {lines} lines that no script prints, where at most {MOST_LINES} are meant"
 
 
 def main():

@@ -1,22 +1,30 @@
 #!/usr/bin/env python3
-"""docs/trusted.py: what the theorem of the program rests on.
+"""docs/trusted.py: what the theorem of the program rests on, and the lists of docs/TRUSTED.md.
 
 It follows the contract of `session`, and those of the traits that it is over, through the definitions of specs/: each that their clauses name,
 each that these name, and so on. A name of the toolchain's library or of a type of the code ends a path.
 
 Usage: docs/trusted.py            how many definitions of each crate, and how many lines they have
        docs/trusted.py --files    the same of each file, with the names
+       docs/trusted.py --write    prints the lists of docs/TRUSTED.md anew, from the comments of the files
 
-docs/check.py looks whether docs/TRUSTED.md lists these files, and those that the other public clauses cite."""
+A list has the crates from the lowest up, and in a crate each file behind those that it names. What a file says is its first comment, and its
+source is what its comments name. docs/check.py fails if the page is not what --write prints."""
 import itertools
 import pathlib
 import re
 import sys
 
+import house
+
 TOP = pathlib.Path(__file__).resolve().parent.parent
 PAGE = "docs/TRUSTED.md"
 PRIVATE = re.compile(r"no public contract cites|only private functions cite", flags=re.I)
 FIRST, SECOND = "What the theorem of `session` rests on", "What the crates' other clauses cite"
+THIRD = "What no public clause cites"
+MARK, END = "<!-- Printed by docs/trusted.py --write from the comments in crates/*/specs. -->", "<!-- End of what is printed. -->"
+STANDARDS = [("FIDE Laws", "FIDE Laws"), ("PGN standard", "PGN standard"), ("HTML standard", "HTML standard")]
+OTHER_SOURCES = [("Encyclopaedia", "Encyclopaedia of Chess Openings"), ("Scid", "Scid"), ("[Tt]his project's own", "this project's own")]
 THEOREM = [
     ("shell_session", "run.rt", "pub fn session"),
     ("base_files", "files.rt", "pub trait Files"),
@@ -165,54 +173,124 @@ def of_clauses(files):
     return reached(roots, files)
 
 
-def listed():
-    """The files of each list of the page, in their order, each with the number of its line."""
-    lists, files, crate = {FIRST: [], SECOND: []}, None, None
-    for number, line in enumerate((TOP / PAGE).read_text().splitlines(), 1):
-        if line.startswith("## "):
-            files = lists.get(line[3:])
-        elif line.startswith("### "):
-            crate = line[4:].strip("`")
-        elif line.startswith("| `") and files is not None:
-            for name in re.findall(r"`(?:specs/)?([\w/]+)\.antt`", line.split("|")[1]):
-                files.append((f"Rattle.{crate}.specs.{name}", number))
-    return lists
+def lowest_first(crates):
+    """These crates, each behind those that it names; else in the order of docs/DESIGN.md, from the ground up."""
+    named_by, order = house.below(), []
+
+    def put(crate):
+        if crate not in order:
+            for other in sorted(named_by.get(crate, ()), key=rooms.index):
+                put(other)
+            order.append(crate)
+
+    rooms = [house.crate_of(it) for _, its_rooms in house.floors() for it in its_rooms][::-1]
+    for crate in rooms:
+        put(crate)
+    return [it for it in order if it in crates]
 
 
-def faults():
-    """What docs/TRUSTED.md lists and should not, or should and does not, and which definitions say that nobody cites them, and somebody does."""
-    files = read_all()
-    theorem, clauses = of_theorem(files), of_clauses(files)
-    first = {module for module, _ in theorem}
-    second = {module for module, _ in clauses} - first
-    lists = listed()
-    for name, wanted in ((FIRST, first), (SECOND, second)):
-        there = [module for module, _ in lists[name]]
-        for module, number in lists[name]:
-            if module not in files:
-                yield f"{PAGE}:{number}: there is no {module}"
-            elif module not in wanted or there.count(module) > 1:
-                yield f"{PAGE}:{number}: {module} does not belong there, or stands there twice"
-        for module in sorted(wanted - set(there)):
-            yield f"{PAGE}: {module} is missing under '{name}'"
-    yield from out_of_order(lists[FIRST], theorem, files)
-    yield from cited_private_words(files, {**clauses, **theorem})
+def readable(modules, cited, files):
+    """The files of a crate that a list has, each behind those that its cited definitions name."""
+    order, begun = [], set()
 
-
-def out_of_order(rows, theorem, files):
-    """Files of the first list that stand before one that they name."""
-    line_of = dict(rows)
-    for module, number in sorted(theorem):
+    def put(module):
+        if module in begun:
+            return
+        begun.add(module)
         here = files[module]
-        for other, _ in named("\n".join(here.blocks[number]), here.words, here.modules, files, module):
-            if line_of.get(other, 0) > line_of.get(module, sys.maxsize):
-                yield f"{PAGE}:{line_of[module]}: {module} stands before {other}, which it names"
+        further = {
+            other
+            for at, number in cited
+            if at == module
+            for other, _ in named("\n".join(here.blocks[number]), here.words, here.modules, files, module)
+        }
+        for other in sorted(further & modules):
+            put(other)
+        order.append(module)
+
+    for module in sorted(modules):
+        put(module)
+    return order
 
 
 def heading(file):
     """The comment that a file begins with, as one line."""
     lines = itertools.takewhile(lambda it: it.startswith("--"), file.text.splitlines())
     return " ".join(it.removeprefix("--").strip() for it in lines)
+
+
+def source_of(file):
+    """What the comments of a file name as its source: the sections of each standard, Scid, this project."""
+    comments = " ".join(it.strip().removeprefix("--").strip() for it in file.text.splitlines() if it.strip().startswith("--"))
+    found = []
+    for standard, short in STANDARDS:
+        told = [it[1] for it in re.finditer(rf"{standard}(?:, (?:Articles? |section )?(\d[\d.]*(?:(?:, and |, | and | to )\d[\d.]*)*))?", comments)]
+        if told:
+            parts = {it.rstrip(".") for numbers in told if numbers for it in re.split(r", and |, | and ", numbers)}
+            found.append(short + "".join(f" {', '.join(sorted(parts, key=section))}" for _ in [0] if parts))
+    found += [short for words, short in OTHER_SOURCES if re.search(words, comments)]
+    return "; ".join(found) or "none named"
+
+
+def section(numbers):
+    return [int(it) for it in re.findall(r"\d+", numbers)]
+
+
+def says(file):
+    """The first comment of a file, without its source."""
+    text = re.sub(r" ?\([^()]*(?:this project's own|FIDE Laws|PGN standard|Scid|HTML standard)[^()]*\)", "", heading(file))
+    text = re.sub(r" This project's own[^.]*\.$", "", text)
+    return text.replace("|", "\\|").strip()
+
+
+def names_of(module, cited, files):
+    """The cited definitions of a file, in its order: all, or their names."""
+    file, numbers = files[module], {number for at, number in cited if at == module}
+    first_of = {}
+    for name, block in file.block_of.items():
+        if name != "mutual":
+            first_of.setdefault(block, name)
+    if len(numbers) == len(file.blocks):
+        return "all"
+    return ", ".join(f"`{first_of[it]}`" for it in sorted(numbers) if it in first_of)
+
+
+def printed_list(modules, cited, files):
+    for crate in lowest_first({it.split(".")[1] for it in modules}):
+        yield from ["", f"### `{crate}`", "", "| File | What it says | Source | Definitions |", "|---|---|---|---|"]
+        for module in readable({it for it in modules if it.split(".")[1] == crate}, cited, files):
+            file = files[module]
+            yield f"| `{module.split('.')[3]}.antt` | {says(file)} | {source_of(file)} | {names_of(module, cited, files)} |"
+
+
+def printed():
+    """The part of the page that is printed."""
+    files = read_all()
+    theorem, clauses = of_theorem(files), of_clauses(files)
+    first = {module for module, _ in theorem}
+    second = {module for module, _ in clauses} - first
+    private = sorted(set(files) - first - second)
+    by_crate = {crate: [it.split(".")[3] for it in private if it.split(".")[1] == crate and files[it].blocks] for crate in {it.split(".")[1] for it in private}}
+    yield from [MARK, "", f"## {FIRST}", *printed_list(first, theorem, files), "", f"## {SECOND}", *printed_list(second, clauses, files)]
+    yield from ["", f"## {THIRD}", "", "| Crate | Files |", "|---|---|"]
+    for crate in lowest_first(by_crate):
+        if by_crate[crate]:
+            yield f"| `{crate}` | {', '.join(f'`{it}`' for it in by_crate[crate])} |"
+    yield from ["", END]
+
+
+def page():
+    """The page as it has to be: its own words around what is printed."""
+    text = (TOP / PAGE).read_text()
+    return text.partition(MARK)[0] + "\n".join(printed()) + text.partition(END)[2]
+
+
+def faults():
+    """Whether docs/TRUSTED.md is not current, and which definitions say that nobody cites them, and somebody does."""
+    files = read_all()
+    if (TOP / PAGE).read_text() != page():
+        yield f"{PAGE} is not what docs/trusted.py --write prints"
+    yield from cited_private_words(files, {**of_clauses(files), **of_theorem(files)})
 
 
 def cited_private_words(files, cited):
@@ -224,13 +302,16 @@ def cited_private_words(files, cited):
 
 
 def main():
+    if "--write" in sys.argv[1:]:
+        (TOP / PAGE).write_text(page())
+        return
     files = read_all()
     theorem = of_theorem(files)
     by_file = {}
     for module, number in theorem:
         by_file.setdefault(module, set()).add(number)
     lines = {module: sum(len(files[module].blocks[it]) for it in numbers) for module, numbers in by_file.items()}
-    order = [module for module, _ in listed()[FIRST] if module in by_file]
+    order = [it for crate in lowest_first({it.split('.')[1] for it in by_file}) for it in readable({m for m in by_file if m.split('.')[1] == crate}, theorem, files)]
     if "--files" in sys.argv[1:]:
         for module in [*order, *sorted(set(by_file) - set(order))]:
             names = [name for name, block in files[module].block_of.items() if block in by_file[module]]
