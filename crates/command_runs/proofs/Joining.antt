@@ -1,5 +1,6 @@
 -- Laws of texts that are written in parts.
-use Rattle.std.proofs.Common.{◌≡◌, ℕ, List, [], ◌++◌, Option, sym, ap, ◌∙◌, subst}
+use Rattle.std.proofs.Common.{◌≡◌, ◌+◌, ℕ, List, [], ◌++◌, take, drop, Option, sym, ap, ◌∙◌, subst}
+use Rattle.std.proofs.lemmas.List.{drop-drop, take-append-drop}
 use Rattle.base_files.specs.Told.{adds, Grew}
 use Rattle.base_files.proofs.Telling.{adds-nil, adds-append, Grew-refl, Grew-adds, Grew-trans}
 use Rattle.command_runs.specs.Endings.{Done, Halted, NoneLost}
