@@ -28,7 +28,6 @@ pub fn write_full<K: Sink>(page: &mut Vec<u8>, out: &mut K) -> Result<(), Halt>
 }
 
 /// Writes all that waits. After an error what was not written waits still.
-#[tactic(auto, using(command_runs::proofs::Joining::none_lost_by))]
 pub fn write_page<K: Sink>(page: &mut Vec<u8>, out: &mut K) -> Result<(), Halt>
     ensures kept { adds (K.taken out.new) page.new.items ≡ adds (K.taken out.old) page.old.items }
     ensures empty { OnOk result (page.new.items ≡ []) }
