@@ -276,6 +276,8 @@ def check_export(room):
     check("a base of a year has its games", games_of(room, "2010") == run(room, "./scid_export", "years", "year=2010..2010")[1])
     (room / "headless.si4").write_bytes(b"no index")
     check("a bad base has its status", run(room, "./scid_export", "headless")[0] == 5)
+    for output in (">/dev/full", ">&-"):
+        check(f"games that find no way out are a write fault ({output})", subprocess.run(["bash", "-c", f"./scid_export years {output}"], cwd=room, capture_output=True).returncode == 4)
 
 
 def check_eco(room):

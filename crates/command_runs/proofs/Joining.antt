@@ -1,5 +1,6 @@
 -- Laws of texts that are written in parts.
-use Rattle.std.proofs.Common.{◌≡◌, ℕ, List, [], ◌++◌, Option, sym, ap, ◌∙◌, subst}
+use Rattle.std.proofs.Common.{◌≡◌, ◌+◌, ℕ, List, [], ◌++◌, take, drop, Option, sym, ap, ◌∙◌, subst}
+use Rattle.std.proofs.lemmas.List.{drop-drop, take-append-drop}
 use Rattle.base_files.specs.Told.{adds, Grew}
 use Rattle.base_files.proofs.Telling.{adds-nil, adds-append, Grew-refl, Grew-adds, Grew-trans}
 use Rattle.command_runs.specs.Endings.{Done, Halted, NoneLost}
@@ -67,3 +68,18 @@ written_after front text a b c first second =
 pub done_after : {S : Type 0} (Stands : S → Type 0) (state : S) (front text : List ℕ) (a b c : Option (List ℕ)) → b ≡ adds a front → Done Stands state text b c → Done Stands state (front ++ text) a c
 done_after Stands state front text a b c written d =
     record { stands = d.stands; written = written_after front text a b c written d.written }
+
+-- ---- writing from a place on
+
+-- The sink took more bytes from the front of those that wait.
+pub taken_more : (told told' : Option (List ℕ)) (bytes rest : List ℕ) (from n : ℕ) → rest ≡ drop from bytes → told' ≡ adds told (take n rest) → adds told' (drop (from + n) bytes) ≡ adds told (drop from bytes)
+taken_more told told' bytes rest from n same is =
+    ap (λ (t : Option (List ℕ)). adds t (drop (from + n) bytes)) (is ∙ ap (λ (l : List ℕ). adds told (take n l)) same)
+    ∙ sym (adds-append told (take n (drop from bytes)) (drop (from + n) bytes))
+    ∙ ap (λ (l : List ℕ). adds told (take n (drop from bytes) ++ l)) (sym (drop-drop n from bytes))
+    ∙ ap (adds told) (take-append-drop n (drop from bytes))
+
+pub grew_further : (told told' told'' : Option (List ℕ)) (bytes : List ℕ) → Grew told told' → told'' ≡ adds told' bytes → Grew told told''
+grew_further told told' told'' bytes grew is =
+    let P : Option (List ℕ) → Type 0 = λ t. Grew told t in
+    subst P (sym is) (Grew-trans told told' (adds told' bytes) grew (Grew-adds told' bytes))

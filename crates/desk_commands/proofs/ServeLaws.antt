@@ -22,15 +22,15 @@ use Rattle.shell_state.specs.Stands.{Holding, Stands, WhyHalt}
 use Rattle.shell_state.specs.State.{State}
 use Rattle.shell_state.specs.declared.halt.Halt.{Halt}
 use Rattle.shell_state.specs.declared.halt.Halt.TheVariants as halt
-use Rattle.tagged_text.specs.Rendered.{Opening, Rendered, no_text, said}
-use Rattle.tagged_text.specs.Waiting.{Waiting}
+use Rattle.command_runs.specs.Rendered.{Opening, Rendered, no_text, said}
+use Rattle.command_runs.specs.Waiting.{Waiting}
 use Rattle.view_commands.specs.declared.window.Window.{Window}
 use Rattle.desk_commands.proofs.KindLaws.{carry_behind}
 use Rattle.desk_commands.proofs.TagLaws.{tag_causes, tag_unsaid}
 use Rattle.desk_commands.specs.Desk.{lines_to}
 use Rattle.desk_commands.specs.Lending.{client_tag}
 use Rattle.desk_commands.specs.Doing.{ended}
-use Rattle.tagged_text.specs.Tagged.{tagged}
+use Rattle.command_runs.specs.Tagged.{tagged}
 
 abbrev Serving : {A : Type 0} → Window → Holding → Seen → State → Task → Option (List ℕ) → Option (List ℕ) → Result A Halt → Type 0
 Serving w m seen s t told told' r = Serves (tasks w) (Stands m seen) (BrokenTask w) s t told told' r

@@ -13,10 +13,10 @@ use Rattle.command_runs.specs.Endings.{Halted, NoneLost}
 use Rattle.shell_state.specs.Stands.{WhyHalt}
 use Rattle.shell_state.specs.declared.halt.Halt.{Halt}
 use Rattle.shell_state.specs.declared.halt.Halt.TheVariants as halt
-use Rattle.tagged_text.proofs.Lines.{tagged_none, tagged_prefix}
-use Rattle.tagged_text.specs.Rendered.{Opening, Rendered, no_text, said, told_behind, untagged_text}
-use Rattle.tagged_text.specs.Tagged.{tagged}
-use Rattle.tagged_text.specs.Waiting.{Waiting}
+use Rattle.command_runs.proofs.Lines.{tagged_none, tagged_prefix}
+use Rattle.command_runs.specs.Rendered.{Opening, Rendered, no_text, said, told_behind, untagged_text}
+use Rattle.command_runs.specs.Tagged.{tagged}
+use Rattle.command_runs.specs.Waiting.{Waiting}
 
 kept_grew : (first told : Option (List ℕ)) (bytes : List ℕ) → told ≡ adds first bytes → Grew first told
 kept_grew first told bytes is = subst (λ (x : Option (List ℕ)). Grew first x) (sym is) (Grew-adds first bytes)

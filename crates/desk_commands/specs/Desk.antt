@@ -15,7 +15,7 @@ use Rattle.shell_commands.specs.Tasks.{tasks}
 use Rattle.shell_state.specs.Lines.{error_line}
 use Rattle.shell_state.specs.Slots.{Slot}
 use Rattle.shell_state.specs.State.{Shared, State, begin}
-use Rattle.tagged_text.specs.Tagged.{tagged_lines}
+use Rattle.command_runs.specs.Tagged.{tagged_lines}
 use Rattle.view_commands.specs.Views.{all_slots}
 use Rattle.view_commands.specs.declared.window.Window.{Window}
 

@@ -13,13 +13,13 @@ ghost use Rattle.desk_commands.specs.Standing.{DeskSound, DeskStands, seat_of, s
 use crate::seats::change_seats;
 use crate::showing::clients_of;
 use base_core::Base;
+use command_runs::TagPage;
 use filter_seat::Seat;
 use game_filter::Filter;
 use script_lines::Clients;
 use shell_state::Machine;
 use std::alloc::{AllocError, Global};
 use std::marker::Model;
-use tagged_text::TagPage;
 
 /// An open base with what all its clients share, and the seat of each of them. The client whose line is done sits in the machine; else nobody
 /// does.

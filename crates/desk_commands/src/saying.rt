@@ -9,12 +9,11 @@ ghost use Rattle.desk_commands.specs.Desk.{lines_to, unless_nothing};
 ghost use Rattle.desk_commands.specs.Lending.{client_tag};
 
 use base_files::{Sink, Stop};
-use command_runs::write_text;
+use command_runs::{TagPage, write_tagged, write_text};
 use script_lines::{Clients, Order};
 use script_text::Command;
 use shell_state::{Halt, error_line, write_line};
 use std::alloc::{AllocError, Global};
-use tagged_text::{TagPage, write_tagged};
 
 // What stands before each line that is said to a client.
 pub(crate) fn client_tag(client: u8) -> [u8; 3]

@@ -9,7 +9,7 @@ use Rattle.script_text.specs.Tasks.{Order, Task, task}
 use Rattle.script_text.specs.declared.command.Command.TheVariants.{Nothing, Find, SearchPosition, SearchMaterial, SearchHeader, Reset, Clear, Negate, Restrict, Keep, Take, And, Or, Drop, Hits, List as Listing, Show, Export, Import, Replace, Eco, Tag, Delete, Undelete, Mark, Tree, Watch, View, Unwatch, Cross, Twins, Index, Save, Info, Demo, Quit, Compact}
 use Rattle.shell_commands.specs.Tasks.{task_work, tasks}
 use Rattle.shell_state.specs.State.{Shared, State}
-use Rattle.tagged_text.specs.Tagged.{tagged}
+use Rattle.command_runs.specs.Tagged.{tagged}
 use Rattle.view_commands.specs.Views.{all_slots, is_own}
 use Rattle.view_commands.specs.declared.window.Window.{Window}
 use Rattle.desk_commands.proofs.LendLaws.{brought_by_kind, brought_is}

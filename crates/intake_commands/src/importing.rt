@@ -22,9 +22,8 @@ use crate::paging::next_behind;
 use base_files::{Files, Sink, Source, Stop};
 use game_tree::{Game, Head};
 use pgn_read::{Item, PgnError, Reader};
-use shell_state::{Halt, Machine, game_line};
+use shell_state::{Halt, Machine, game_line, write_full, write_page};
 use std::alloc::Global;
-use text_pages::{write_full, write_page};
 
 /// import <<WORD: takes the games of a body in, and gives the last line of its text, which is not written yet.
 pub fn import<F: Files, B: Source, K: Sink>(

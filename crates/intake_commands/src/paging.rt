@@ -14,10 +14,9 @@ ghost use Rattle.shell_state.specs.Stands.{WhyHalt};
 use crate::importing::unread;
 use base_files::{Failed, FaultCount, Sink, Source};
 use pgn_read::{Item, Reader};
-use shell_state::Halt;
+use shell_state::{Halt, write_page};
 use std::alloc::Global;
 use std::marker::{Brand, PhantomData};
-use text_pages::write_page;
 
 /// Where the reading of an item begins, which the type of its source knows by a ghost member.
 trait Begins {

@@ -1,7 +1,7 @@
 -- What the program says of a session on standard error (this project's own).
 use Rattle.std.specs.Prelude.{ℕ, List, codes}
-use Rattle.shell_session.specs.declared.status.Status.{Status}
-use Rattle.shell_session.specs.declared.status.Status.TheVariants.{Done, Usage, BadBase, ReadFault, WriteFault, FilesFault, Changed, InputTooLong, Memory}
+use Rattle.session_status.specs.declared.status.Status.{Status}
+use Rattle.session_status.specs.declared.status.Status.TheVariants.{Done, Usage, BadBase, ReadFault, WriteFault, FilesFault, Changed, InputTooLong, Memory}
 
 -- The line for a status, of a bad base and of a changed game its beginning; none for a session that is done.
 abbrev pub line_of : Status → List ℕ

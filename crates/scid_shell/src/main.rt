@@ -3,8 +3,8 @@
 
 ghost use Rattle.std.specs.Prelude.{◌≡◌, ◌≢◌, ◌≤◌, MatchResult, length};
 ghost use Rattle.base_files.specs.Causes.{output_stop};
-ghost use Rattle.shell_session.specs.Stops.{status_of};
-ghost use Rattle.shell_session.specs.declared.status.Status.TheVariants as done;
+ghost use Rattle.session_status.specs.Stops.{status_of};
+ghost use Rattle.session_status.specs.declared.status.Status.TheVariants as done;
 
 mod messages;
 

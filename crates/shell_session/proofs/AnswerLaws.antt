@@ -21,10 +21,10 @@ use Rattle.shell_session.proofs.ViewLaws.{lives_first, none_told, show_none}
 use Rattle.shell_session.specs.Around.{Around, Lives, Views, around, slots_by}
 use Rattle.shell_session.specs.Running.{Interrupts, Opening, OpeningRefused}
 use Rattle.shell_session.specs.Session.{Answers, Chooses, ChoosesBase, Reads, StaysIfRefused, WhyStatus, Due, Given, Inlet, Opened, RanAll, RanPart, Unbegun, begun, given, opening_text}
-use Rattle.shell_session.specs.Stops.{status_of}
+use Rattle.session_status.specs.Stops.{status_of}
 use Rattle.shell_session.specs.Words.{Wanted, words_read}
-use Rattle.shell_session.specs.declared.status.Status.{Status}
-use Rattle.shell_session.specs.declared.status.Status.TheVariants.{Done, Usage, BadBase, ReadFault, WriteFault, FilesFault, Changed, InputTooLong, Memory}
+use Rattle.session_status.specs.declared.status.Status.{Status}
+use Rattle.session_status.specs.declared.status.Status.TheVariants.{Done, Usage, BadBase, ReadFault, WriteFault, FilesFault, Changed, InputTooLong, Memory}
 
 -- What is known where the three contents are told.
 pub told : (seen : Seen) (F : List ℕ → List ℕ → List ℕ → Type 0) (index names games : List ℕ) → IfTold seen F → seen.index ≡ Some index → seen.names ≡ Some names → seen.games ≡ Some games → F index names games

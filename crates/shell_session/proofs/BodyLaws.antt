@@ -63,9 +63,9 @@ use Rattle.view_commands.specs.declared.window.Window.{Window}
 use Rattle.shell_session.specs.Running.{BehindDone, BodyDone, Finished, GoneOn, Halts, Interrupted, Interrupts, Kept, LastDid, LastDone, LastHalts, Stops, WentOn, WentOut, added, behind_at, last_tasks, said_on, whole_on}
 use Rattle.shell_session.specs.Around.{Around, IsLeftIn, Lives, price_all, told_all, told_more}
 use Rattle.shell_session.specs.Session.{Breaks, WhyStatus}
-use Rattle.shell_session.specs.Stops.{status_in_body, status_of_reading}
-use Rattle.shell_session.specs.declared.status.Status.{Status}
-use Rattle.shell_session.specs.declared.status.Status.TheVariants.{FilesFault, InputTooLong, Memory, ReadFault, WriteFault}
+use Rattle.session_status.specs.Stops.{status_in_body, status_of_reading}
+use Rattle.session_status.specs.declared.status.Status.{Status}
+use Rattle.session_status.specs.declared.status.Status.TheVariants.{FilesFault, InputTooLong, Memory, ReadFault, WriteFault}
 use Rattle.shell_session.proofs.DeskLaws.{Remains, breaks_by, carries_later, done_so, effect_so}
 use Rattle.shell_session.proofs.PriceLaws.{price_both, price_front}
 use Rattle.shell_session.proofs.ViewLaws.{left_alone, lives_more, lives_since, none_told}

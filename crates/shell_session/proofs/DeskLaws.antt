@@ -17,7 +17,7 @@ use Rattle.shell_state.specs.Carrying.{AreLeft, Settled, StillCarry}
 use Rattle.view_commands.specs.Views.{all_slots}
 use Rattle.shell_session.specs.Around.{AreLeftBy, Around}
 use Rattle.shell_session.specs.Session.{Breaks, BrokenBy}
-use Rattle.shell_session.specs.declared.status.Status.{Status}
+use Rattle.session_status.specs.declared.status.Status.{Status}
 
 -- The line of a task.
 abbrev pub its_line : Tagged → Line

@@ -12,9 +12,9 @@ use Rattle.shell_state.specs.Stands.{WhyHalt}
 use Rattle.shell_state.specs.declared.halt.Halt.{Halt}
 use Rattle.shell_session.specs.Running.{Interrupts, Kept}
 use Rattle.shell_session.specs.Session.{WhyStatus}
-use Rattle.shell_session.specs.Stops.{status_of_halt, status_of_reading}
-use Rattle.shell_session.specs.declared.status.Status.{Status}
-use Rattle.shell_session.specs.declared.status.Status.TheVariants.{Done, Usage, BadBase, ReadFault, WriteFault, FilesFault, Changed, InputTooLong, Memory}
+use Rattle.session_status.specs.Stops.{status_of_halt, status_of_reading}
+use Rattle.session_status.specs.declared.status.Status.{Status}
+use Rattle.session_status.specs.declared.status.Status.TheVariants.{Done, Usage, BadBase, ReadFault, WriteFault, FilesFault, Changed, InputTooLong, Memory}
 use Rattle.shell_session.proofs.RunningLaws.{ends_halt, ends_stuck, no_input, none_rose, why_halt, why_stuck}
 
 -- A fact on a status, where it follows for the status that came.

@@ -14,8 +14,8 @@ use Rattle.desk_commands.specs.Standing.{DeskHolding, DeskStands}
 use Rattle.shell_state.specs.Slots.{Slot}
 use Rattle.shell_state.specs.Stands.{IsOpen, ShowNone}
 use Rattle.shell_session.specs.Running.{Opening, OpeningRefused}
-use Rattle.shell_session.specs.Stops.{status_of_opening}
-use Rattle.shell_session.specs.declared.status.Status.TheVariants.{FilesFault}
+use Rattle.session_status.specs.Stops.{status_of_opening}
+use Rattle.session_status.specs.declared.status.Status.TheVariants.{FilesFault}
 
 -- A base that is not opened ends the session.
 pub refused_by : (e : OpenError) (create strict : Bool) (seen : Seen) → IfBad (λ fault. IfTold seen (λ index names games. Refuses create strict index names games fault)) e

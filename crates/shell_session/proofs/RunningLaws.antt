@@ -37,9 +37,9 @@ use Rattle.shell_session.specs.Running.{BehindDone, Finished, Halts, InLine, Int
 use Rattle.desk_commands.specs.Views.{line_told}
 use Rattle.shell_session.specs.Around.{Around, Lives, price_all, told_all, told_more}
 use Rattle.shell_session.specs.Session.{Breaks, LinesDone, RanAll, RanPart, WhyStatus}
-use Rattle.shell_session.specs.Stops.{status_of_halt, status_of_reading}
-use Rattle.shell_session.specs.declared.status.Status.{Status}
-use Rattle.shell_session.specs.declared.status.Status.TheVariants.{InputTooLong, Memory, ReadFault}
+use Rattle.session_status.specs.Stops.{status_of_halt, status_of_reading}
+use Rattle.session_status.specs.declared.status.Status.{Status}
+use Rattle.session_status.specs.declared.status.Status.TheVariants.{InputTooLong, Memory, ReadFault}
 use Rattle.shell_session.proofs.DeskLaws.{Remains, alone_line, breaks_by, desk_carries, its_line, left_desk, same_kind, unsettled_line}
 use Rattle.shell_session.proofs.PriceLaws.{paid_all, paid_one}
 use Rattle.shell_session.proofs.ViewLaws.{left_alone, lives_more, lives_since, lives_twice, told_all-append, told_one}

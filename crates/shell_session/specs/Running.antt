@@ -25,8 +25,8 @@ use Rattle.shell_state.specs.Slots.{Slot}
 use Rattle.shell_state.specs.Stands.{ShowNone}
 use Rattle.shell_session.specs.Around.{Around, Lives, price_all, told_all, told_more}
 use Rattle.shell_session.specs.Session.{Breaks, WhyStatus}
-use Rattle.shell_session.specs.declared.status.Status.{Status}
-use Rattle.shell_session.specs.declared.status.Status.TheVariants.{BadBase, ReadFault, WriteFault, FilesFault, Changed, InputTooLong, Memory}
+use Rattle.session_status.specs.declared.status.Status.{Status}
+use Rattle.session_status.specs.declared.status.Status.TheVariants.{BadBase, ReadFault, WriteFault, FilesFault, Changed, InputTooLong, Memory}
 
 -- A base was opened: the machine stands for the desk in which a script begins.
 pub record Opening (create strict desk : Bool) (index names games : List ℕ) (held : DeskHolding) (seen : Seen) (mended : ℕ) : Type 0 where

@@ -21,8 +21,8 @@ use Rattle.shell_state.specs.Carrying.{AreLeft, Settled, StillCarry}
 use Rattle.view_commands.specs.Views.{all_slots}
 use Rattle.shell_session.specs.Around.{Around, AreBeside, AreLeftBy, Views, slots_by, summed}
 use Rattle.shell_session.specs.Words.{Wanted, words_read}
-use Rattle.shell_session.specs.declared.status.Status.{Status}
-use Rattle.shell_session.specs.declared.status.Status.TheVariants.{Done, Usage, BadBase, ReadFault, WriteFault, FilesFault, Changed, InputTooLong, Memory}
+use Rattle.session_status.specs.declared.status.Status.{Status}
+use Rattle.session_status.specs.declared.status.Status.TheVariants.{Done, Usage, BadBase, ReadFault, WriteFault, FilesFault, Changed, InputTooLong, Memory}
 
 -- What a session is given: its words, the three files of the base, the script, and the views of its slots.
 pub record Given : Type 0 where

@@ -4,8 +4,7 @@
 mod opening;
 mod run;
 mod running;
-mod status;
 mod words;
 
 pub use run::session;
-pub use status::Status;
+pub use session_status::Status;

@@ -13,13 +13,13 @@ ghost use Rattle.script_lines.specs.Clients.{new_clients};
 ghost use Rattle.shell_session.specs.Running.{Opening, OpeningRefused};
 ghost use Rattle.shell_session.specs.Session.{opening_text};
 
-use crate::status::Status;
 use crate::words::Wanted;
 use base_core::Base;
 use base_files::{Files, Sink, Stop};
 use command_runs::write_text;
 use desk_commands::Desk;
 use script_lines::Clients;
+use session_status::Status;
 use std::alloc::{AllocError, Global};
 
 /// How long a record may be, and one byte more.

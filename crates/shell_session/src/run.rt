@@ -10,9 +10,9 @@ ghost use Rattle.shell_session.specs.Words.{words_read};
 
 use crate::opening::{open, write_opening};
 use crate::running::run_script;
-use crate::status::Status;
 use crate::words::words_read;
 use base_files::{Files, Sink, Source};
+use session_status::Status;
 use std::alloc::Global;
 use tree_live::TreeView;
 

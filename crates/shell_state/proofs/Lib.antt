@@ -10,3 +10,4 @@ pub mod HoldingLaws
 pub mod Beginning
 pub mod Served
 pub mod TableLaws
+pub mod PageLaws

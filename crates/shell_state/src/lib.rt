@@ -6,6 +6,7 @@ mod hits;
 mod indexing;
 mod lines;
 mod machine;
+mod page;
 mod refusing;
 mod short_lines;
 mod writing;
@@ -15,6 +16,7 @@ pub use hits::{counted, hits_of};
 pub use indexing::replace_in_index;
 pub use lines::{error_line, fault_line, game_line, line_of, no_game_line, san_words};
 pub use machine::Machine;
+pub use page::{write_full, write_page};
 pub use refusing::{Refusal, refusal_line, refused_line};
 pub use short_lines::{
     Line, count_line, filter_line, hit_line, name_line, number_line, unknown_game_line,

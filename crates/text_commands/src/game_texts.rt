@@ -23,9 +23,8 @@ use base_files::{Files, Sink, Stop};
 use game_filter::Filter;
 use game_tree::{Game, Head};
 use pgn_write::write_game;
-use shell_state::{Halt, Machine, halt_of, no_game_line, write_line};
+use shell_state::{Halt, Machine, halt_of, no_game_line, write_full, write_line, write_page};
 use std::alloc::{AllocError, Global};
-use text_pages::{write_full, write_page};
 
 /// show G
 #[tactic(auto, using(shell_state::proofs::Causing::unsaid_without))]

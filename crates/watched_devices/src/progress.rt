@@ -11,6 +11,11 @@ const QUIET: u64 = 1000;
 /// How many milliseconds what was said stands at least.
 const STANDS: u64 = 100;
 
+/// How many bytes the header of an index takes, and each of its entries.
+const HEADER: usize = 182;
+
+const ENTRY: usize = 47;
+
 /// Takes away what stands on the line.
 const CLEAR: &str = "\r\x1b[K";
 
@@ -40,8 +45,9 @@ pub struct ProgressLine<'r> {
 #[derive(Clone, Copy)]
 struct Progress {
     work: Work,
-    // The games of the base when it was opened, and how many records were read since.
+    // The games of the base when it was opened, the bytes that their records take one by one, and how many records were read since.
     games: u32,
+    records: u64,
     read: u64,
     // The place in the games file that was read last, and the file's length.
     place: u64,
@@ -88,6 +94,7 @@ impl<'r> ProgressLine<'r> {
         let progress = Progress {
             work,
             games: 0,
+            records: 0,
             read: 0,
             place: 0,
             end: 0,
@@ -113,6 +120,7 @@ impl<'r> ProgressLine<'r> {
     pub fn loaded(&self, index: &[u8]) {
         self.tell(Progress {
             games: games_in(index),
+            records: records_in(index),
             ..self.progress.get()
         });
     }
@@ -146,14 +154,22 @@ impl<'r> ProgressLine<'r> {
         self.tell(Progress {
             work: Work::Adding,
             added: before.added.saturating_add(1),
+            records: before.records.saturating_add(bytes as u64),
             end: before.end.saturating_add(bytes as u64),
             ..before
         });
     }
 
-    /// A new games file is begun.
+    /// A new games file is begun. Where it becomes more than twice the old one, since games share records, that is said.
     pub fn begun(&self) {
         let before = self.progress.get();
+        if before.records / 2 > before.end {
+            self.clear();
+            let _ = eprintln!(self.rt;
+                "the games share records: the new games file takes up to {} bytes, and the old one has {}",
+                before.records, before.end
+            );
+        }
         let work = match before.work {
             Work::Mending => Work::Mending,
             _ => Work::Compacting,
@@ -258,6 +274,22 @@ fn games_in(index: &[u8]) -> u32 {
         Some([high, middle, low]) => u32::from_be_bytes([0, *high, *middle, *low]),
         _ => 0,
     }
+}
+
+// The bytes that the records of all games in an index take, each counted for itself.
+fn records_in(index: &[u8]) -> u64 {
+    let mut records: u64 = 0;
+    let mut entries = index.get(HEADER..).unwrap_or(&[]);
+    while let Some((entry, behind)) = entries.split_first_chunk::<ENTRY>() {
+        records = records.saturating_add(record_len(entry));
+        entries = behind;
+    }
+    records
+}
+
+// The length of a game's record, of which an entry has 17 bits: the 16 low ones behind the record's place, and one in the byte behind them.
+fn record_len(entry: &[u8; ENTRY]) -> u64 {
+    u64::from(u16::from_be_bytes([entry[4], entry[5]])) + (u64::from(entry[6] >> 7) << 16)
 }
 
 impl Progress {

@@ -5,9 +5,9 @@ use Rattle.script_text.specs.Tasks.{task}
 use Rattle.shell_commands.specs.Tasks.{BrokenTask, SettledTask, tasks}
 use Rattle.shell_state.specs.Ends.{Unsaid}
 use Rattle.shell_state.specs.Stands.{Stands}
-use Rattle.tagged_text.proofs.Texts.{said_begun}
-use Rattle.tagged_text.specs.Rendered.{Opening, no_text, said}
-use Rattle.tagged_text.specs.Waiting.{Waiting}
+use Rattle.command_runs.proofs.Texts.{said_begun}
+use Rattle.command_runs.specs.Rendered.{Opening, no_text, said}
+use Rattle.command_runs.specs.Waiting.{Waiting}
 use Rattle.desk_commands.proofs.sitting.serve_behind.Goals as goal
 
 pub returns-clause-serves : goal.returns-clause-serves

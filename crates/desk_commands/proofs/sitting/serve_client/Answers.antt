@@ -6,7 +6,7 @@ use Rattle.script_text.specs.Tasks.{task}
 use Rattle.shell_commands.specs.Tasks.{BrokenTask, SettledTask, tasks}
 use Rattle.shell_commands.specs.Watching.{ViewsDone, touches}
 use Rattle.shell_state.specs.Stands.{Stands}
-use Rattle.tagged_text.specs.Tagged.{tagged}
+use Rattle.command_runs.specs.Tagged.{tagged}
 use Rattle.view_commands.specs.Views.{AreLeft, AreRight}
 use Rattle.view_commands.specs.declared.window.Window.{Window}
 use Rattle.desk_commands.proofs.ServeLaws.{serving_broken, serving_carries, serving_halted, serving_settled, serving_stands, serving_written, to_lines, to_plain}

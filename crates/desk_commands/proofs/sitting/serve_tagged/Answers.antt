@@ -7,7 +7,7 @@ use Rattle.shell_commands.specs.Tasks.{BrokenTask, tasks}
 use Rattle.shell_commands.specs.Watching.{ViewsDone}
 use Rattle.shell_state.specs.Ends.{Unsaid}
 use Rattle.shell_state.specs.Stands.{Sound, Stands, WhyHalt}
-use Rattle.tagged_text.specs.Tagged.{tagged}
+use Rattle.command_runs.specs.Tagged.{tagged}
 use Rattle.desk_commands.proofs.ServeLaws.{ended_both, ended_broken, ended_causes, ended_done, ended_unsaid, serving_broken, serving_carries, serving_halted, serving_settled, serving_stands, serving_written, tagged_settled}
 use Rattle.desk_commands.proofs.TagLaws.{tag_halted, tag_lost, tag_unsaid, tag_written}
 use Rattle.desk_commands.proofs.sitting.serve_tagged.Goals as goal

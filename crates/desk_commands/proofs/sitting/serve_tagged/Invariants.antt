@@ -1,4 +1,4 @@
-use Rattle.tagged_text.specs.Rendered.{opening}
+use Rattle.command_runs.specs.Rendered.{opening}
 use Rattle.desk_commands.proofs.sitting.serve_tagged.Given as goal
 
 -- The text begins where the call does.

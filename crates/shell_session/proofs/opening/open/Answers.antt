@@ -4,7 +4,7 @@ use Rattle.base_files.proofs.Rising.{Rose-after}
 use Rattle.base_core.specs.Opening.{IfBad, IfTold, Opens, Refuses, open_cost}
 use Rattle.script_lines.specs.Clients.{Clients}
 use Rattle.shell_session.specs.Running.{OpeningRefused}
-use Rattle.shell_session.specs.declared.status.Status.{Status}
+use Rattle.session_status.specs.declared.status.Status.{Status}
 use Rattle.shell_session.proofs.OpeningLaws.{Starts, failed_is, opening, refused_by}
 use Rattle.shell_session.proofs.opening.open.Goals as goal
 

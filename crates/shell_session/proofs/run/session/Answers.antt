@@ -5,9 +5,9 @@ use Rattle.std.specs.Vec.{with_items}
 use Rattle.shell_session.specs.Around.{around, meanings}
 use Rattle.shell_session.specs.Session.{Answers, Due, Inlet, StaysIfRefused, given, Chooses, Reads, WhyStatus}
 use Rattle.shell_session.specs.Words.{Wanted, words_read}
-use Rattle.shell_session.specs.declared.status.Status.{Status}
-use Rattle.shell_session.specs.declared.status.Status.TheVariants.{Done, Memory, Usage}
-use Rattle.shell_session.specs.Stops.{status_of}
+use Rattle.session_status.specs.declared.status.Status.{Status}
+use Rattle.session_status.specs.declared.status.Status.TheVariants.{Done, Memory, Usage}
+use Rattle.session_status.specs.Stops.{status_of}
 use Rattle.shell_session.proofs.AnswerLaws.{chooses_running, chosen, due_of, line_session, opened_by, part_session, stays_line, stays_running, stays_same, why_line, why_running, whole_session, reads_line, stop_interrupts, words_refused, words_running}
 use Rattle.shell_session.proofs.PriceLaws.{asks_opening, asks_script}
 use Rattle.shell_session.proofs.ViewLaws.{meanings_few, none_told}

@@ -5,7 +5,7 @@ use Rattle.script_lines.specs.Reading.{Reader}
 use Rattle.script_lines.specs.Standing.{IsBegun}
 use Rattle.shell_state.specs.declared.halt.Halt.TheVariants as halt
 use Rattle.shell_session.specs.Running.{BodyDone, GoneOn, Halts}
-use Rattle.shell_session.specs.declared.status.Status.{Status}
+use Rattle.session_status.specs.declared.status.Status.{Status}
 use Rattle.shell_session.proofs.BodyLaws.{body_done, body_gone, body_halts, body_kept, body_short, drain_halts, in_body, short_word, standing_first, standing_from, text_left}
 use Rattle.shell_session.specs.Around.{around, meanings}
 use Rattle.shell_session.proofs.running.run_body.Goals as goal

@@ -3,7 +3,7 @@ use Rattle.command_runs.specs.Counts.{counts}
 use Rattle.script_lines.specs.Clients.{tagged_task}
 use Rattle.shell_commands.specs.Tasks.{order_writes}
 use Rattle.shell_session.specs.Running.{Interrupted, Kept}
-use Rattle.shell_session.specs.declared.status.Status.{Status}
+use Rattle.session_status.specs.declared.status.Status.{Status}
 use Rattle.shell_session.proofs.KeptLaws.{kept_halt}
 use Rattle.shell_session.proofs.RunningLaws.{interrupted}
 use Rattle.shell_session.proofs.ViewLaws.{left_by, lives_behind, right_out}

@@ -4,7 +4,7 @@ use Rattle.script_lines.specs.Clients.{Clients}
 use Rattle.script_lines.specs.Reading.{Reader}
 use Rattle.desk_commands.specs.Desk.{desks}
 use Rattle.shell_session.specs.Session.{RanPart}
-use Rattle.shell_session.specs.declared.status.Status.{Status}
+use Rattle.session_status.specs.declared.status.Status.{Status}
 use Rattle.shell_session.proofs.KeptLaws.{kept_none, kept_on, kept_read, kept_stuck}
 use Rattle.shell_session.proofs.RunningLaws.{at_last, at_line, if_err, last_quiet, on_ok, paid_done, paid_last, ran_finished, ran_halted, ran_last, ran_last_halted, ran_more, ran_none, ran_short, ran_stuck, read_too_much}
 use Rattle.shell_session.specs.Around.{around, meanings, told_all}

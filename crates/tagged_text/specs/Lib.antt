@@ -1,4 +1,0 @@
-pub mod Tagged
-pub mod Lines
-pub mod Waiting
-pub mod Rendered
