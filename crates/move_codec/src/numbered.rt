@@ -6,7 +6,7 @@ ghost use Rattle.cell_core.specs.Man.{man};
 ghost use Rattle.chess_laws.specs.Position.{start_setup};
 ghost use Rattle.chess_laws.specs.Step.{Legal, Step};
 ghost use Rattle.move_codec.specs.Numbers.{numbers_after, squares_of, standard_numbers, text_numbers};
-ghost use Rattle.move_codec.specs.Packed.{Decodes, HasHighSecond, diagonal_move, encoding, is_mark, named, named_value, rest_of, to_square, value_of};
+ghost use Rattle.move_codec.specs.Packed.{Decodes, HasHighSecond, decoded, diagonal_move, encoding, is_mark, named, named_value, rest_of, to_square, value_of};
 
 use super::fault::MoveFault;
 use super::numbers::{Numbers, capture_square};
@@ -76,6 +76,7 @@ impl Numbered {
     /// after the move are not looked at.
     pub fn decode_move(&self, bytes: &[u8]) -> Result<(Move, u8), MoveFault>
         ensures decodes { Decodes self.now bytes.now result }
+        ensures exact { result ≡ decoded self.now bytes.now }
         ensures used { IfOk result (λ decoded. (0 < decoded.1) × ((decoded.1 ≤ 2) × (decoded.1 ≤ length bytes.now))) }
         ensures second { IfOk result (λ decoded. HasHighSecond bytes.now decoded.1) }
     {
@@ -101,8 +102,23 @@ impl Numbered {
     }
 
     /// Plays the legal move that the first bytes name, in place, and gives what `decode_move` does. After a fault nothing
-    /// has changed.
+    /// has changed. It is compiled into each loop that calls it.
+    #[inline(always)]
     pub fn advance(&mut self, bytes: &[u8]) -> Result<(Move, u8), MoveFault>
+        ensures decodes { Decodes self.old bytes.now result }
+        ensures exact { result ≡ decoded self.old bytes.now }
+        ensures used { IfOk result (λ decoded. (0 < decoded.1) × ((decoded.1 ≤ 2) × (decoded.1 ≤ length bytes.now))) }
+        ensures second { IfOk result (λ decoded. HasHighSecond bytes.now decoded.1) }
+        ensures step { IfOk result (λ decoded. Step self.old.position decoded.0 self.new.position) }
+        ensures numbers { IfOk result (λ decoded. self.new.numbers ≡ numbers_after self.old.position decoded.0 self.old.numbers) }
+        ensures kept { IfErr result (λ _. self.new ≡ self.old) }
+    {
+        self.advance_first(bytes)
+    }
+
+    /// `advance`, by the man with the number of the first byte.
+    #[inline(always)]
+    fn advance_first(&mut self, bytes: &[u8]) -> Result<(Move, u8), MoveFault>
         ensures decodes { Decodes self.old bytes.now result }
         ensures used { IfOk result (λ decoded. (0 < decoded.1) × ((decoded.1 ≤ 2) × (decoded.1 ≤ length bytes.now))) }
         ensures second { IfOk result (λ decoded. HasHighSecond bytes.now decoded.1) }
