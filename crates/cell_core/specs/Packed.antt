@@ -1,8 +1,7 @@
 -- A board packed into words: this project's own form, in which boards are compared and hashed.
-use Rattle.std.specs.Prelude.{ℕ, Bool, ◌+◌, ◌*◌, ◌/◌, ◌%◌, ◌==◌, ◌≡◌, List, [], ◌∷◌, ◌++◌, map, Option, Some, None, slice_index_or}
+use Rattle.std.specs.Prelude.{ℕ, Bool, ◌+◌, ◌*◌, ◌==◌, ◌≡◌, List, [], ◌∷◌, ◌++◌, map, Option, Some, None, slice_index_or}
 use Rattle.std.specs.List.{range_with_len}
 use Rattle.std.specs.Int.{bit_at}
-use Rattle.std.specs.Int.RustNames.{bit_xor}
 use Rattle.cell_core.specs.declared.man.Colour.{Colour}
 use Rattle.cell_core.specs.declared.man.Colour.TheVariants.{White, Black}
 use Rattle.cell_core.specs.declared.man.Kind.TheVariants.{King, Queen, Rook, Bishop, Knight, Pawn}
@@ -63,13 +62,3 @@ packed_of men to_move = record { cells = cells_of men; side = to_move }
 -- Four words that stand for squares: they are the words of these.
 abbrev pub ArePacked : List ℕ → Type 0
 ArePacked cells = cells_of (men_of cells) ≡ cells
-
--- What is hashed of four words: each times an odd number, shifted apart, so that boards differ in it that differ in few squares.
-abbrev pub scaled : ℕ → ℕ → ℕ
-scaled word factor = word * factor % 18446744073709551616
-
-unfoldable pub mixed : List ℕ → ℕ
-mixed cells =
-    bit_xor
-    (bit_xor (scaled (slice_index_or cells 0 0) 0x9e37_79b9_7f4a_7c15) (scaled (slice_index_or cells 1 0) 0xbf58_476d_1ce4_e5b9 / 2048))
-    (bit_xor (scaled (slice_index_or cells 2 0) 0x94d0_49bb_1331_11eb / 8388608) (scaled (slice_index_or cells 3 0) 0xd6e8_feb8_6659_fd93 / 137438953472))

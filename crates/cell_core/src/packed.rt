@@ -1,6 +1,6 @@
 //! The board packed into four words, both ways.
 ghost use Rattle.std.specs.Prelude.{◌≡◌, ◌<◌, length};
-ghost use Rattle.cell_core.specs.Packed.{cells_of, man_of, men_of, mixed, nibble_at, packed_of};
+ghost use Rattle.cell_core.specs.Packed.{cells_of, man_of, men_of, nibble_at, packed_of};
 
 use super::board::Board;
 use super::man::{Colour, Kind, Man};
@@ -27,33 +27,24 @@ impl Model for PackedBoard {
     ghost inverse = { λ p. record { cells = p.cells; side = p.side } };
 }
 
-/// The words are mixed to one, which is hashed in one write: the two sides to move of a board hash the same.
+/// The four words are hashed one by one, so that nothing is mixed before the hasher's key: the two sides to move of a board hash
+/// the same.
 impl Hash for PackedBoard {
+    ghost use Rattle.std.specs.Prelude.{◌++◌, slice_index_or};
     ghost use Rattle.std.specs.Cmp.Rules.{hashing};
     ghost use borrow.Author.Rules.{rules};
     ghost use Rattle.std.specs.Hash as fed;
-    ghost use Rattle.cell_core.specs.Packed.{mixed};
 
-    ghost hash_input = { λ p. fed.u64 (mixed p.cells) };
+    ghost hash_input = { λ p. fed.u64 (slice_index_or p.cells 0 0) ++ (fed.u64 (slice_index_or p.cells 1 0) ++ (fed.u64 (slice_index_or p.cells 2 0) ++ fed.u64 (slice_index_or p.cells 3 0))) };
 
     ghost respects_eq = { Prim.search (hashing, rules) };
 
     fn hash<H: Hasher>(&self, state: &mut H) {
-        state.write_u64(mixed(&self.cells));
+        state.write_u64(self.cells[0]);
+        state.write_u64(self.cells[1]);
+        state.write_u64(self.cells[2]);
+        state.write_u64(self.cells[3]);
     }
-}
-
-/// The four words as one: each times an odd number, shifted apart.
-#[inline(always)]
-#[tactic(auto, unfolding(crate::specs::Packed::mixed))]
-fn mixed(words: &[u64; 4]) -> u64
-    ensures { result ≡ mixed words.now }
-{
-    let low = words[0].wrapping_mul(0x9e37_79b9_7f4a_7c15)
-        ^ (words[1].wrapping_mul(0xbf58_476d_1ce4_e5b9) >> 11);
-    let high = (words[2].wrapping_mul(0x94d0_49bb_1331_11eb) >> 23)
-        ^ (words[3].wrapping_mul(0xd6e8_feb8_6659_fd93) >> 37);
-    low ^ high
 }
 
 /// Packs a board and the side to move; `unpack` gives them back.

@@ -87,6 +87,7 @@ fn is_seen(lines: &[u64; 64], kind: Kind, s: Square, t: Square) -> bool
 }
 
 /// Whether such a man stands on the square.
+#[inline(always)]
 pub(crate) fn stands(board: &Board, from: Square, colour: Colour, kind: Kind) -> bool
     ensures { IsTrue result ↔ (man_at board.now from ≡ Some (man colour kind)) }
 {

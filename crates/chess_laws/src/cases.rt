@@ -149,6 +149,7 @@ fn may_become(promo: Option<Kind>) -> bool
 }
 
 /// Whether it is a pawn's first move of two squares.
+#[inline(always)]
 fn is_double(p: &Setup, m: &Move) -> bool
     ensures { IsTrue result ↔ DoubleCase p.now m.now }
 {
@@ -170,6 +171,7 @@ pub fn is_on_own_rank(side: Colour, s: Square) -> bool
 }
 
 /// Whether two steps forward lead from one square to the other, over an empty one.
+#[inline(always)]
 fn walks_two(board: &Board, side: Colour, from: Square, to: Square) -> bool
     ensures { IsTrue result ↔ Walk board.now (forward side) 1 from to }
 {

@@ -9,19 +9,29 @@ use Rattle.cell_core.specs.declared.man.Kind.TheVariants.{Pawn}
 use Rattle.chess_laws.specs.Geometry.{square}
 use Rattle.chess_text.specs.declared.shape.Going.{Going}
 use Rattle.chess_text.specs.declared.shape.Shape.TheVariants.{Goes}
-use Rattle.chess_text.specs.SanReading.{promotion_named, piece_named, file_named, rank_named, capture_named, is_sign, one, optional, square_read, promotion_read, aimed, going_named, form_named, shape_named}
+use Rattle.chess_text.specs.SanReading.{promotion_named, piece_named, file_named, rank_named, capture_named, is_sign, one, maybe, square_read, promotion_read, aimed, going_named, form_named, shape_named}
 use Rattle.chess_text.specs.SanParts.{is_capture_sign, front, behind, begins, passed, square_from, square_front, behind_square, promotion_front, behind_promotion, from_square, from_capture, from_rank, from_file, from_kind, going_parts, shape_from, shape_parts}
+
+-- what is read goes on, with the text behind it
+abbrev split : {A : Type 0} → Option (A × List ℕ) → List ℕ → Option A × List ℕ
+split found text = option_map_or (λ x. (Some x.0, x.1)) found (None, text)
+
+abbrev told : {A B : Type 0} → Option (A × List ℕ) → List ℕ → (Option A → List ℕ → B) → B
+told found text next = next (split found text).0 (split found text).1
+
+abbrev optional : {A B : Type 0} → (List ℕ → Option (A × List ℕ)) → List ℕ → (Option A → List ℕ → B) → B
+optional read text next = next (maybe read text).0 (maybe read text).1
 
 -- one byte
 one-found : {A B : Type 0} (o : Option A) (byte : ℕ) (text : List ℕ) (next : Option A → List ℕ → B)
-    → option_map_or (λ (x : A × List ℕ). next (Some x.0) x.1) (option_map (λ (x : A). (x, text)) o) (next None (byte ∷ text))
+    → told (option_map (λ (x : A). (x, text)) o) (byte ∷ text) next
     ≡ next o (cond (is_some o) text (byte ∷ text))
 one-found None byte text next = refl
 one-found (Some x) byte text next = refl
 
 one-is : {A B : Type 0} (named : ℕ → Option A) (text : List ℕ) (next : Option A → List ℕ → B)
     → optional (one named) text next ≡ next (front named text) (behind named text)
-unfolding optional
+unfolding maybe
 one-is named [] next = refl
 one-is named (byte ∷ text) next = one-found (named byte) byte text next
 
@@ -29,7 +39,7 @@ one-is named (byte ∷ text) next = one-found (named byte) byte text next
 sign-is : {B : Type 0} (is_it : ℕ → Bool) (text : List ℕ) (next : Bool → List ℕ → B)
     → optional (one (λ byte. cond (is_it byte) (Some byte) None)) text (λ (found : Option ℕ) (rest : List ℕ). next (is_some found) rest)
     ≡ next (begins is_it text) (passed is_it text)
-unfolding optional
+unfolding maybe
 sign-is is_it [] next = refl
 sign-is is_it (byte ∷ text) next =
     elim (cases_Bool (is_it byte)) [
@@ -39,52 +49,51 @@ sign-is is_it (byte ∷ text) next =
 
 -- a square
 square-rank : {B : Type 0} (f a b : ℕ) (text : List ℕ) (u : Option ℕ) (next : Option ℕ → List ℕ → B)
-    → option_map_or (λ (x : ℕ × List ℕ). next (Some x.0) x.1)
-    (option_map (λ (rank : ℕ × List ℕ). (square f rank.0, rank.1)) (option_map (λ (x : ℕ). (x, text)) u)) (next None (a ∷ b ∷ text))
+    → told (option_map (λ (rank : ℕ × List ℕ). (square f rank.0, rank.1)) (option_map (λ (x : ℕ). (x, text)) u)) (a ∷ b ∷ text) next
     ≡ next (square_from (Some f) u) (cond (is_some (square_from (Some f) u)) text (a ∷ b ∷ text))
 square-rank f a b text None next = refl
 square-rank f a b text (Some r) next = refl
 
 square-file : {B : Type 0} (a b : ℕ) (text : List ℕ) (o : Option ℕ) (next : Option ℕ → List ℕ → B)
-    → option_map_or (λ (x : ℕ × List ℕ). next (Some x.0) x.1)
+    → told
     (option_and_then (λ (file : ℕ × List ℕ). option_map (λ (rank : ℕ × List ℕ). (square file.0 rank.0, rank.1)) (one rank_named file.1))
-    (option_map (λ (x : ℕ). (x, b ∷ text)) o)) (next None (a ∷ b ∷ text))
+    (option_map (λ (x : ℕ). (x, b ∷ text)) o)) (a ∷ b ∷ text) next
     ≡ next (square_from o (rank_named b)) (cond (is_some (square_from o (rank_named b))) text (a ∷ b ∷ text))
 square-file a b text None next = refl
 square-file a b text (Some f) next = square-rank f a b text (rank_named b) next
 
 square-alone : {B : Type 0} (a : ℕ) (o : Option ℕ) (next : Option ℕ → List ℕ → B)
-    → option_map_or (λ (x : ℕ × List ℕ). next (Some x.0) x.1)
+    → told
     (option_and_then (λ (file : ℕ × List ℕ). option_map (λ (rank : ℕ × List ℕ). (square file.0 rank.0, rank.1)) (one rank_named file.1))
-    (option_map (λ (x : ℕ). (x, [])) o)) (next None (a ∷ []))
+    (option_map (λ (x : ℕ). (x, [])) o)) (a ∷ []) next
     ≡ next (square_from o None) (cond (is_some (square_from o None)) [] (a ∷ []))
 square-alone a None next = refl
 square-alone a (Some f) next = refl
 
 square-is : {B : Type 0} (text : List ℕ) (next : Option ℕ → List ℕ → B) → optional square_read text next ≡ next (square_front text) (behind_square text)
-unfolding optional square_read square_front behind_square
+unfolding maybe square_read square_front behind_square
 square-is [] next = refl
 square-is (a ∷ []) next = square-alone a (file_named a) next
 square-is (a ∷ b ∷ text) next = square-file a b text (file_named a) next
 
 -- a promotion
 letter-found : {B : Type 0} (o : Option Kind) (byte : ℕ) (rest text : List ℕ) (next : Option Kind → List ℕ → B)
-    → option_map_or (λ (x : Kind × List ℕ). next (Some x.0) x.1) (option_map (λ (x : Kind). (x, rest)) o) (next None text)
+    → told (option_map (λ (x : Kind). (x, rest)) o) text next
     ≡ next o (cond (is_some o) (cond (is_some o) rest (byte ∷ rest)) text)
 letter-found None byte rest text next = refl
 letter-found (Some k) byte rest text next = refl
 
 letter-is : {B : Type 0} (rest text : List ℕ) (next : Option Kind → List ℕ → B)
-    → option_map_or (λ (x : Kind × List ℕ). next (Some x.0) x.1) (one promotion_named rest) (next None text)
+    → told (one promotion_named rest) text next
     ≡ next (front promotion_named rest) (cond (is_some (front promotion_named rest)) (behind promotion_named rest) text)
 letter-is [] text next = refl
 letter-is (byte ∷ rest) text next = letter-found (promotion_named byte) byte rest text next
 
 promotion-is : {B : Type 0} (text : List ℕ) (next : Option Kind → List ℕ → B)
     → optional promotion_read text next ≡ next (promotion_front text) (behind_promotion text)
-unfolding optional promotion_read promotion_front behind_promotion
+unfolding maybe promotion_read promotion_front behind_promotion
 promotion-is text next =
-    ap (λ (found : Option (Kind × List ℕ)). option_map_or (λ (x : Kind × List ℕ). next (Some x.0) x.1) found (next None text))
+    ap (λ (found : Option (Kind × List ℕ)). told found text next)
     (sign-is (λ (byte : ℕ). byte == 61) text (λ (equals : Bool) (rest : List ℕ). one promotion_named rest))
     ∙ letter-is (passed (λ (byte : ℕ). byte == 61) text) text next
 

@@ -39,9 +39,9 @@ abbrev pub one : {A : Type 0} → (ℕ → Option A) → List ℕ → Option (A 
 one named [] = None
 one named (byte ∷ text) = option_map (λ x. (x, text)) (named byte)
 
--- What may be said or left out: it goes on with what is read, if something is, and the text behind it.
-unfoldable pub optional : {A B : Type 0} → (List ℕ → Option (A × List ℕ)) → List ℕ → (Option A → List ℕ → B) → B
-optional read text next = option_map_or (λ found. next (Some found.0) found.1) (read text) (next None text)
+-- What may be said or left out: what is read, if something is, and the text behind it.
+unfoldable pub maybe : {A : Type 0} → (List ℕ → Option (A × List ℕ)) → List ℕ → Option A × List ℕ
+maybe read text = option_map_or (λ found. (Some found.0, found.1)) (read text) (None, text)
 
 -- A square by its file and its rank.
 unfoldable pub square_read : List ℕ → Option (ℕ × List ℕ)
@@ -51,9 +51,11 @@ square_read text =
 -- A promotion by its letter, behind the sign = or without it.
 unfoldable pub promotion_read : List ℕ → Option (Kind × List ℕ)
 promotion_read text =
-    optional (one (λ byte. cond (byte == 61) (Some byte) None)) text (λ equals behind. one promotion_named behind)
+    let equals = maybe (one (λ byte. cond (byte == 61) (Some byte) None)) text in
+    one promotion_named equals.1
 
--- The man that goes: where no square follows its file and rank and no sign of a capture, they are the target.
+-- The man that goes: where no square follows its file and rank and no sign of a capture, they are the target, as in `e4`. Behind a sign
+-- of a capture there must be one: `e4x` names no man that goes.
 abbrev pub aimed : Kind → Option ℕ → Option ℕ → Bool → Option ℕ → Option Kind → Option Going
 aimed k file rank takes (Some target) promo =
     Some (record { kind = k; file = file; rank = rank; target = target; promo = promo })
@@ -65,13 +67,13 @@ aimed k _ _ _ None promo = None
 -- as it is said. Only signs of check and mate follow.
 unfoldable pub going_named : List ℕ → Option Going
 going_named text =
-    optional (one piece_named) text (λ piece text.
-    optional (one file_named) text (λ file text.
-    optional (one rank_named) text (λ rank text.
-    optional (one capture_named) text (λ capture text.
-    optional square_read text (λ target text.
-    optional promotion_read text (λ promo text.
-    cond (list_all is_sign text) (aimed (unwrap_or piece Pawn) file rank (is_some capture) target promo) None))))))
+    let piece = maybe (one piece_named) text in
+    let file = maybe (one file_named) piece.1 in
+    let rank = maybe (one rank_named) file.1 in
+    let capture = maybe (one capture_named) rank.1 in
+    let target = maybe square_read capture.1 in
+    let promo = maybe promotion_read target.1 in
+    cond (list_all is_sign promo.1) (aimed (unwrap_or piece.0 Pawn) file.0 rank.0 (is_some capture.0) target.0 promo.0) None
 
 -- Whether the text is this form, and then only signs.
 abbrev pub is_form : List ℕ → List ℕ → Bool

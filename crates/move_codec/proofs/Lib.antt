@@ -9,4 +9,5 @@ pub mod Standard
 pub mod Text
 pub mod Decoding
 pub mod Apart
+pub mod DecodedLaws
 pub mod Words

@@ -6,7 +6,7 @@ ghost use Rattle.cell_core.specs.Man.{man};
 ghost use Rattle.chess_laws.specs.Position.{start_setup};
 ghost use Rattle.chess_laws.specs.Step.{Legal, Step};
 ghost use Rattle.move_codec.specs.Numbers.{numbers_after, squares_of, standard_numbers, text_numbers};
-ghost use Rattle.move_codec.specs.Packed.{Decodes, HasHighSecond, diagonal_move, encoding, is_mark, named, named_value, rest_of, to_square, value_of};
+ghost use Rattle.move_codec.specs.Packed.{Decodes, HasHighSecond, decoded, diagonal_move, encoding, is_mark, named, named_value, rest_of, to_square, value_of};
 
 use super::fault::MoveFault;
 use super::numbers::{Numbers, capture_square};
@@ -76,6 +76,7 @@ impl Numbered {
     /// after the move are not looked at.
     pub fn decode_move(&self, bytes: &[u8]) -> Result<(Move, u8), MoveFault>
         ensures decodes { Decodes self.now bytes.now result }
+        ensures exact { result ≡ decoded self.now bytes.now }
         ensures used { IfOk result (λ decoded. (0 < decoded.1) × ((decoded.1 ≤ 2) × (decoded.1 ≤ length bytes.now))) }
         ensures second { IfOk result (λ decoded. HasHighSecond bytes.now decoded.1) }
     {
@@ -101,8 +102,23 @@ impl Numbered {
     }
 
     /// Plays the legal move that the first bytes name, in place, and gives what `decode_move` does. After a fault nothing
-    /// has changed.
+    /// has changed. It is compiled into each loop that calls it.
+    #[inline(always)]
     pub fn advance(&mut self, bytes: &[u8]) -> Result<(Move, u8), MoveFault>
+        ensures decodes { Decodes self.old bytes.now result }
+        ensures exact { result ≡ decoded self.old bytes.now }
+        ensures used { IfOk result (λ decoded. (0 < decoded.1) × ((decoded.1 ≤ 2) × (decoded.1 ≤ length bytes.now))) }
+        ensures second { IfOk result (λ decoded. HasHighSecond bytes.now decoded.1) }
+        ensures step { IfOk result (λ decoded. Step self.old.position decoded.0 self.new.position) }
+        ensures numbers { IfOk result (λ decoded. self.new.numbers ≡ numbers_after self.old.position decoded.0 self.old.numbers) }
+        ensures kept { IfErr result (λ _. self.new ≡ self.old) }
+    {
+        self.advance_first(bytes)
+    }
+
+    /// `advance`, by the man with the number of the first byte.
+    #[inline(always)]
+    fn advance_first(&mut self, bytes: &[u8]) -> Result<(Move, u8), MoveFault>
         ensures decodes { Decodes self.old bytes.now result }
         ensures used { IfOk result (λ decoded. (0 < decoded.1) × ((decoded.1 ≤ 2) × (decoded.1 ≤ length bytes.now))) }
         ensures second { IfOk result (λ decoded. HasHighSecond bytes.now decoded.1) }
@@ -123,7 +139,7 @@ impl Numbered {
         self.advance_by(man.kind, from, bytes, rest)
     }
 
-    /// `advance` of a man of this kind: the code is compiled for each kind apart, so that the kind is told once.
+    /// `advance` of a man of this kind: the code is compiled for each side apart, so that the side is told once.
     #[inline(always)]
     fn advance_by(
         &mut self,
@@ -142,25 +158,23 @@ impl Numbered {
         ensures numbers { IfOk result (λ decoded. self.new.numbers ≡ numbers_after self.old.position decoded.0 self.old.numbers) }
         ensures kept { IfErr result (λ _. self.new ≡ self.old) }
     {
-        match kind {
-            Kind::King => self.advance_man(Kind::King, from, bytes, rest),
-            Kind::Queen => self.advance_man(Kind::Queen, from, bytes, rest),
-            Kind::Rook => self.advance_man(Kind::Rook, from, bytes, rest),
-            Kind::Bishop => self.advance_man(Kind::Bishop, from, bytes, rest),
-            Kind::Knight => self.advance_man(Kind::Knight, from, bytes, rest),
-            Kind::Pawn => self.advance_man(Kind::Pawn, from, bytes, rest),
+        match self.position.side() {
+            Colour::White => self.advance_kind(Colour::White, kind, from, bytes, rest),
+            Colour::Black => self.advance_kind(Colour::Black, kind, from, bytes, rest),
         }
     }
 
-    /// The same, for a kind that is a constant.
+    /// The same, for a side that is a constant: the code is compiled for each kind apart too.
     #[inline(always)]
-    fn advance_man(
+    fn advance_kind(
         &mut self,
+        side: Colour,
         kind: Kind,
         from: Square,
         bytes: &[u8],
         rest: &[u8],
     ) -> Result<(Move, u8), MoveFault>
+        requires side { side ≡ self.old.position.side }
         requires stands { man_at self.old.position.board from ≡ Some (man self.old.position.side kind) }
         requires number { slice_get (squares_of self.old.position.side self.old.numbers) (slice_index_or bytes.now 0 0 / 16) ≡ Some from }
         requires named { named self.old bytes.now ≡ named_value kind self.old.position.side from (slice_index_or bytes.now 0 0 % 16) rest.now }
@@ -171,7 +185,38 @@ impl Numbered {
         ensures numbers { IfOk result (λ decoded. self.new.numbers ≡ numbers_after self.old.position decoded.0 self.old.numbers) }
         ensures kept { IfErr result (λ _. self.new ≡ self.old) }
     {
-        let (m, used) = self.named_by(kind, from, bytes, rest)?;
+        match kind {
+            Kind::King => self.advance_man(side, Kind::King, from, bytes, rest),
+            Kind::Queen => self.advance_man(side, Kind::Queen, from, bytes, rest),
+            Kind::Rook => self.advance_man(side, Kind::Rook, from, bytes, rest),
+            Kind::Bishop => self.advance_man(side, Kind::Bishop, from, bytes, rest),
+            Kind::Knight => self.advance_man(side, Kind::Knight, from, bytes, rest),
+            Kind::Pawn => self.advance_man(side, Kind::Pawn, from, bytes, rest),
+        }
+    }
+
+    /// The same, for a side and a kind that are constants.
+    #[inline(always)]
+    fn advance_man(
+        &mut self,
+        side: Colour,
+        kind: Kind,
+        from: Square,
+        bytes: &[u8],
+        rest: &[u8],
+    ) -> Result<(Move, u8), MoveFault>
+        requires side { side ≡ self.old.position.side }
+        requires stands { man_at self.old.position.board from ≡ Some (man self.old.position.side kind) }
+        requires number { slice_get (squares_of self.old.position.side self.old.numbers) (slice_index_or bytes.now 0 0 / 16) ≡ Some from }
+        requires named { named self.old bytes.now ≡ named_value kind self.old.position.side from (slice_index_or bytes.now 0 0 % 16) rest.now }
+        ensures decodes { Decodes self.old bytes.now result }
+        ensures used { IfOk result (λ decoded. (0 < decoded.1) × ((decoded.1 ≤ 2) × (decoded.1 ≤ length bytes.now))) }
+        ensures second { IfOk result (λ decoded. HasHighSecond bytes.now decoded.1) }
+        ensures step { IfOk result (λ decoded. Step self.old.position decoded.0 self.new.position) }
+        ensures numbers { IfOk result (λ decoded. self.new.numbers ≡ numbers_after self.old.position decoded.0 self.old.numbers) }
+        ensures kept { IfErr result (λ _. self.new ≡ self.old) }
+    {
+        let (m, used) = self.named_by(side, kind, from, bytes, rest)?;
         if self.follow_legal(kind, &m, first_byte(bytes) / 16) {
             Ok((m, used))
         } else {
@@ -179,25 +224,21 @@ impl Numbered {
         }
     }
 
-    /// `named`, of the man of this kind on this square.
+    /// `named`, of the man of this side and kind on this square.
     #[inline(always)]
     fn named_by(
         &self,
+        side: Colour,
         kind: Kind,
         from: Square,
         bytes: &[u8],
         rest: &[u8],
     ) -> Result<(Move, u8), MoveFault>
+        requires side { side ≡ self.now.position.side }
         requires named { named self.now bytes.now ≡ named_value kind self.now.position.side from (slice_index_or bytes.now 0 0 % 16) rest.now }
         ensures { result ≡ named self.now bytes.now }
     {
-        named_value(
-            kind,
-            self.position.side(),
-            from,
-            first_byte(bytes) % 16,
-            rest,
-        )
+        named_value(kind, side, from, first_byte(bytes) % 16, rest)
     }
 
     /// Plays a move of the man of this kind with this number where it is legal, and answers whether it is.
