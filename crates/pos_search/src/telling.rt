@@ -25,7 +25,6 @@ pub fn hits_told<'a>(q: &PosQuery, index: Option<&'a PosIndex>) -> BoardHits<'a>
 }
 
 // The hit of game `i`, where these hits tell it.
-#[inline(always)]
 pub(crate) fn hit_told(told: &mut BoardHits<'_>, i: u32) -> Option<(u32, Option<Move>)>
     ensures same { told.new ≡ told.old }
     ensures told { (query : Query) (rows : List (List Place)) → told.old ≡ hits_told query rows → result ≡ hit_told query (places_in rows i) }
@@ -35,7 +34,6 @@ pub(crate) fn hit_told(told: &mut BoardHits<'_>, i: u32) -> Option<(u32, Option<
 }
 
 // The first matching ply of game `i`, where these hits tell it.
-#[inline(always)]
 pub(crate) fn ply_told(told: &mut BoardHits<'_>, i: u32) -> Option<u32>
     ensures same { told.new ≡ told.old }
     ensures told { (query : Query) (rows : List (List Place)) → told.old ≡ hits_told query rows → result ≡ ply_of (hit_told query (places_in rows i)) }
