@@ -18,6 +18,7 @@ pub(crate) enum Front {
 }
 
 /// How many bytes stand before the next move of a main line, or `None` where the game ends.
+#[inline(always)]
 pub(crate) fn before_move(bytes: &[u8]) -> Result<Option<usize>, Breach>
     ensures due { IfOk result (λ found. MatchOption found
         ((here : Numbered) (moves : List Move) → GoesOn here moves bytes.now → moves ≡ [])
@@ -37,6 +38,7 @@ pub(crate) fn before_move(bytes: &[u8]) -> Result<Option<usize>, Breach>
 }
 
 // What stands at the front of a main line.
+#[inline(always)]
 fn at_front(bytes: &[u8]) -> Result<Front, Breach>
     ensures front { IfOk result (IsFront bytes.now) }
     ensures fault { IfErr result (λ _. (here : Numbered) (moves : List Move) → GoesOn here moves bytes.now → ⊥) }
@@ -52,6 +54,7 @@ fn at_front(bytes: &[u8]) -> Result<Front, Breach>
 }
 
 // What stands at the front of a main line, by its first byte and those behind it. A NAG is passed with its number.
+#[inline(always)]
 fn front_of(byte: u8, behind: &[u8]) -> Result<Front, Breach>
     ensures front { IfOk result (IsFront (byte ∷ behind.now)) }
     ensures fault { IfErr result (λ _. (here : Numbered) (moves : List Move) → GoesOn here moves (byte ∷ behind.now) → ⊥) }
@@ -87,6 +90,7 @@ fn nag(behind: &[u8]) -> Result<Front, Breach>
 }
 
 // How many bytes a variation takes with its end, behind the mark of its beginning. Its moves are not read.
+#[inline(never)]
 fn variation_len(bytes: &[u8]) -> Result<usize, Breach>
     ensures len { IfOk result (λ used. (used ≤ length bytes.now) × ((behind : List ℕ) → Within 1 bytes.now behind → drop used bytes.now ≡ behind)) }
     ensures fault { IfErr result (λ _. (behind : List ℕ) → Within 1 bytes.now behind → ⊥) }

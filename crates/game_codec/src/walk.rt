@@ -91,6 +91,7 @@ impl<'a> Walk<'a> {
 
     /// Plays the next move of the main line and gives it, or gives `None` at its end. The fault comes only where the bytes
     /// are no record. After `None` and after a fault the walk is as it was.
+    #[inline(always)]
     pub fn step(&mut self) -> Result<Option<Move>, RecordFault>
         // On a record of a game this is the game's next move.
         ensures next { IfOk result (λ next. (tags : List TagValue) (game : GameTree) → IsRecord self.old.bytes tags game → next ≡ next_at game self.old.ply) }
@@ -139,6 +140,7 @@ struct NextMove<'a> {
 }
 
 // Plays the next move of a main line.
+#[inline(always)]
 fn next_move<'a>(here: &mut Numbered, bytes: &'a [u8]) -> Result<Option<NextMove<'a>>, Breach>
     ensures next { IfOk result (λ found. MatchOption found
         ((here.new ≡ here.old) × ((moves : List Step') → GoesOn here.old moves bytes.now → moves ≡ []))
@@ -166,6 +168,7 @@ fn next_move<'a>(here: &mut Numbered, bytes: &'a [u8]) -> Result<Option<NextMove
 }
 
 // The fault that a part of these bytes has.
+#[inline(never)]
 pub(crate) fn fault_at(bytes: &[u8], breach: Breach) -> RecordFault
     requires few { length bytes.now < 2 ^ 32 }
     ensures first { Tells (Breaks bytes.now) breach → IsRecordFault bytes.now result }

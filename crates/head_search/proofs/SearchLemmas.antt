@@ -1,6 +1,8 @@
 -- A search of heads game by game.
-use Rattle.std.proofs.Common.{◌≡◌, ℕ, ◌<◌, zero, suc, Bool, List, [], ◌∷◌, Option, None, Some, length, get_or, refl, sym, ap, ◌∙◌, arith}
-use Rattle.std.specs.Prelude.{if◌then◌else◌}
+use Rattle.std.proofs.Common.{◌≡◌, ℕ, ◌<◌, zero, suc, Bool, false, List, [], ◌∷◌, Option, None, Some, length, get_or, set, refl, sym, ap, ◌∙◌, arith}
+use Rattle.std.specs.Prelude.{if◌then◌else◌, is_some, slice_get}
+use Rattle.std.proofs.lemmas.List.{set-get_or}
+use Rattle.std.proofs.lemmas.Option.{get_or_from_slice_get}
 use Rattle.game_tree.specs.declared.head.Head.{Head}
 use Rattle.sig_index.specs.Games.{head_in, plies_in}
 use Rattle.sig_index.specs.declared.head_query.HeadQuery.{HeadQuery}
@@ -30,3 +32,10 @@ length-firsts query [] [] same = refl
 length-firsts query [] (b ∷ sigs) same = absurd (omega (arith, same))
 length-firsts query (a ∷ heads) [] same = absurd (omega (arith, same))
 length-firsts query (a ∷ heads) (b ∷ sigs) same = ap (λ n. suc n) (length-firsts query heads sigs (omega (arith, same)))
+
+-- A game that was out and stays out needs no entry anew.
+pub stays_out : (plies : List (Option ℕ)) (i : ℕ) (old entry : Option ℕ) → slice_get plies i ≡ Some old → is_some old ≡ false → is_some entry ≡ false
+    → plies ≡ set plies i entry
+stays_out plies i None None there out stays = sym (set-get_or plies i None) ∙ ap (set plies i) (get_or_from_slice_get plies i None None there)
+stays_out plies i None (Some ply) there out stays = absurd (cc)
+stays_out plies i (Some ply) entry there out stays = absurd (cc)

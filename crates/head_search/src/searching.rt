@@ -1,5 +1,5 @@
 //! The search of all games.
-ghost use Rattle.std.specs.Prelude.{◌≡◌, ◌<◌, None, length, slice_index_or, slice_set};
+ghost use Rattle.std.specs.Prelude.{◌≡◌, ◌<◌, None, Some, length, slice_get, slice_index_or, slice_set};
 ghost use Rattle.game_filter.specs.Search.{entry_after, searched};
 ghost use Rattle.sig_index.specs.Games.{head_in, name_in, plies_in};
 ghost use Rattle.head_search.specs.Matching.{firsts_of, head_matches, name_item, names_match, numbers_match, player_item};
@@ -30,8 +30,19 @@ fn search_game<G: Games>(games: &G, i: u32, q: &HeadQuery, op: Op, filter: &mut 
 {
     let old = filter.get(i);
     if op.looks_at(old) {
-        let first = first_ply(games, i, q);
-        filter.set(i, op.entry(old, first));
+        join(filter, i, old, op.entry(old, first_ply(games, i, q)));
+    }
+}
+
+// Writes the entry of one game, of which the old one is known. A game that was out and stays out is not written.
+#[tactic(auto, using(crate::proofs::SearchLemmas::stays_out))]
+fn join(filter: &mut Filter, i: u32, old: Option<u32>, entry: Option<u32>)
+    requires game { i < length filter.old }
+    requires old { slice_get filter.old i ≡ Some old }
+    ensures set { filter.new ≡ slice_set filter.old i entry }
+{
+    if old.is_some() || entry.is_some() {
+        filter.set(i, entry);
     }
 }
 

@@ -23,12 +23,17 @@ impl Streaks {
     }
 
     // The streaks after one more ply, of whose counts this is said.
+    #[inline(always)]
     pub(crate) fn after(&self, q: &MatQuery, ply: u32, standing: &Standing) -> Streaks
         requires own { self.now.own < q.now.streak }
         requires other { self.now.other < q.now.streak }
         ensures own { result.own ≡ streak_after q.now self.now.own ply standing.now.own }
         ensures other { result.other ≡ streak_after q.now self.now.other ply standing.now.other }
     {
+        if !standing.own && !standing.other {
+            // As at most plies.
+            return Streaks::none();
+        }
         Streaks {
             own: streak_after(q, self.own, ply, standing.own),
             other: streak_after(q, self.other, ply, standing.other),
@@ -36,6 +41,7 @@ impl Streaks {
     }
 
     // Whether one of them is as long as the query asks.
+    #[inline(always)]
     pub(crate) fn is_whole(&self, q: &MatQuery) -> bool
         ensures { result ≡ ((self.now.own == q.now.streak) || (self.now.other == q.now.streak)) }
     {
@@ -43,6 +49,7 @@ impl Streaks {
     }
 
     // Whether none is under way.
+    #[inline(always)]
     pub(crate) fn is_none(&self) -> bool
         ensures { result ≡ ((self.now.own == 0) && (self.now.other == 0)) }
     {
@@ -63,6 +70,7 @@ fn streak_after(q: &MatQuery, streak: u32, ply: u32, fits: bool) -> u32
 }
 
 // Whether no match begins behind this ply, at which no streak is under way and of whose counts this is said.
+#[inline(always)]
 #[tactic(auto, unfolding(crate::specs::Streaks::is_over))]
 pub(crate) fn is_over(q: &MatQuery, ply: u32, standing: &Standing) -> bool
     ensures { (other : MatRange) → IsStanding q.now other standing.now → result ≡ is_over q.now other ply standing.now.counts }

@@ -1,5 +1,5 @@
 pub mod Words
-pub mod BoardLemmas
+pub mod HomeSets
 pub mod MatchLemmas
 pub mod PawnLemmas
 pub mod FollowLemmas

@@ -1,15 +1,16 @@
 -- What a position that is sought has in common with the query.
-use Rattle.std.proofs.Common.{◌≡◌, ℕ, ◌+◌, ◌-◌, ◌<◌, leb, get_or, Bool, true, false, cond, ◌&&◌, List, Option, None, Some, refl, sym, ap, ◌∙◌, arith}
+use Rattle.std.proofs.Common.{◌≡◌, ℕ, ◌+◌, ◌-◌, ◌<◌, leb, get_or, Bool, true, false, cond, ◌&&◌, List, Option, None, Some, refl, sym, ap, ◌∙◌, arith, inl, inr}
 use Rattle.std.specs.Bool.{Decides}
 use Rattle.std.specs.Option.{option_eq}
-use Rattle.std.proofs.lemmas.Bool.{and_parts}
+use Rattle.std.proofs.lemmas.Bool.{and_parts, cases_Bool}
 use Rattle.std.proofs.lemmas.Bool.Decides.{nat_tests, same_from_decides}
 use Rattle.std.proofs.lemmas.Slice.Eq.{bytes_eq-Decides}
 use Rattle.cell_core.specs.declared.man.Colour.{Colour}
 use Rattle.cell_core.specs.declared.man.Kind.TheVariants.{Pawn}
 use Rattle.cell_core.specs.declared.man.Man.{Man}
-use Rattle.cell_core.specs.Board.{Men, man_at}
+use Rattle.cell_core.specs.Board.{Men, man_at, same_men}
 use Rattle.cell_core.specs.Man.{is_man, same_colour, same_kind}
+use Rattle.cell_core.specs.Sets.{is_kind, set_of}
 use Rattle.cell_core.proofs.Same.{same_colour-Decides, same_men-Decides}
 use Rattle.chess_laws.specs.Counts.{counts_of, home_colour, home_square, is_home}
 use Rattle.chess_laws.specs.declared.setup.Setup.{Setup}
@@ -27,6 +28,13 @@ use Rattle.pos_search.specs.Passing.{fixes_pawns, just}
 counts-Decides : (a b : Men) → Decides (same_counts a b) (counts_of a ≡ counts_of b)
 unfolding same_counts
 counts-Decides a b = bytes_eq-Decides (counts_of a) (counts_of b)
+
+-- Boards whose pawns stand elsewhere have other men.
+pub pawns_apart : (a b : Men) (own other : ℕ) → own ≡ set_of (is_kind Pawn) a → other ≡ set_of (is_kind Pawn) b → (own ≡ other → ⊥) → false ≡ same_men a b
+pawns_apart a b own other own_is other_is apart = elim (cases_Bool (same_men a b)) [
+  | inl same ↦ absurd (apart (own_is ∙ ap (set_of (is_kind Pawn)) ((same_men-Decides a b).0 same) ∙ sym other_is))
+  | inr differs ↦ sym differs
+]
 
 alike_counts : (mode : Mode) (a b : Men) → alike mode a b ≡ true → counts_of a ≡ counts_of b
 alike_counts Exact a b holds = ap counts_of ((same_men-Decides a b).0 holds)

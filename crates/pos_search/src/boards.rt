@@ -1,6 +1,7 @@
 //! What two boards have in common.
 ghost use Rattle.std.specs.Prelude.{◌≡◌, ◌<◌, ◌*◌, ℕ};
 ghost use Rattle.std.specs.Int.{bit_at};
+ghost use Rattle.cell_core.specs.Board.{same_men};
 ghost use Rattle.cell_core.specs.Man.{is_man};
 ghost use Rattle.chess_laws.specs.Counts.{is_home};
 ghost use Rattle.chess_laws.specs.Geometry.{square};
@@ -44,6 +45,14 @@ fn is_home(board: &Board, value: u8) -> bool
         (Colour::White, Square::at(23 - value))
     };
     is_man(&board.at(square), colour, Kind::Pawn)
+}
+
+// Whether the boards have the same men on the same squares. The pawns come first: by them most boards differ.
+#[inline(always)]
+pub(crate) fn same_men(a: &Board, b: &Board) -> bool
+    ensures { result ≡ same_men a.now b.now }
+{
+    a.of_kind(Kind::Pawn) == b.of_kind(Kind::Pawn) && a.is_same(b)
 }
 
 // Whether the boards have pawns of the same side on the same squares.

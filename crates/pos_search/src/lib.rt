@@ -4,6 +4,7 @@
 mod asking;
 mod boards;
 mod coming;
+mod homes;
 mod in_memory;
 mod laws;
 mod matching;

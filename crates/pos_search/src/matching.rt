@@ -8,8 +8,9 @@ ghost use Rattle.pos_search.specs.Matching.{alike, matches, same_counts};
 ghost use Rattle.pos_search.specs.Passing.{fixes_pawns, just, looks_into, passes};
 ghost use Rattle.pos_search.specs.Sought.{IsTold, can_follow, has_homes};
 
-use crate::boards::{home_set, same_files, same_pawns};
+use crate::boards::{home_set, same_files, same_men, same_pawns};
 use crate::coming::Coming;
+use crate::homes::Homes;
 use cell_core::Colour;
 use chess_laws::{Counts, Position};
 use sig_index::{Brief, MatRange, Mode, PosQuery, can_come, can_stand, home_allows};
@@ -33,8 +34,9 @@ pub struct Sought<'a> {
     // The ten counts, and the same as the only ones of a range.
     counts: Counts,
     range: MatRange,
-    // The pawns at home.
+    // The pawns at home: their values, and their squares.
     homes: u16,
+    at_home: Homes,
 }
 
 impl<'a> Model for Sought<'a> {
@@ -45,7 +47,7 @@ impl<'a> Model for Sought<'a> {
 
     ghost view = { λ s. s.query.now };
 
-    ghost invariant = { λ s. IsCounted s.query.now s.counts s.range s.homes };
+    ghost invariant = { λ s. IsCounted s.query.now s.counts s.range s.homes s.at_home };
 }
 
 impl<'a> Sought<'a> {
@@ -64,6 +66,7 @@ impl<'a> Sought<'a> {
                 hi: numbers,
             },
             homes: home_set(&query.board),
+            at_home: Homes::of(&query.board),
         }
     }
 
@@ -101,6 +104,7 @@ impl<'a> Sought<'a> {
     }
 
     // Whether a position is one that is sought.
+    #[inline(always)]
     #[tactic(auto, unfolding(crate::specs::Matching::matches))]
     pub(crate) fn matches(&self, p: &Position) -> bool
         ensures matches { result ≡ matches self.now p.now }
@@ -112,12 +116,13 @@ impl<'a> Sought<'a> {
     }
 
     // Whether its board has in common with the sought one what the mode says.
+    #[inline(always)]
     fn is_alike(&self, p: &Position) -> bool
         ensures { result ≡ alike self.now.mode p.now.board self.now.board }
     {
         let board = p.board();
         match self.query.mode {
-            Mode::Exact => board.is_same(&self.query.board),
+            Mode::Exact => same_men(board, &self.query.board),
             Mode::Pawns => self.has_counts(p) && same_pawns(board, &self.query.board),
             Mode::Files => self.has_counts(p) && same_files(board, &self.query.board),
             Mode::Material => self.has_counts(p),
@@ -125,6 +130,7 @@ impl<'a> Sought<'a> {
     }
 
     // Whether its board has as many men of each kind as the sought one.
+    #[inline(always)]
     fn has_counts(&self, p: &Position) -> bool
         ensures { result ≡ same_counts p.now.board self.now.board }
     {
@@ -132,6 +138,7 @@ impl<'a> Sought<'a> {
     }
 
     // Whether a position that is sought can still come after this one.
+    #[inline(always)]
     #[tactic(auto, unfolding(crate::specs::Sought::can_follow))]
     pub(crate) fn can_follow(&self, p: &Position, coming: &mut Coming) -> bool
         requires told { IsTold self.now coming.old }
@@ -163,7 +170,7 @@ impl<'a> Sought<'a> {
     fn has_homes(&self, p: &Position) -> bool
         ensures { result ≡ has_homes self.now.board p.now.board }
     {
-        p.home_set() & self.homes == self.homes
+        self.at_home.stand_on(p.board())
     }
 }
 

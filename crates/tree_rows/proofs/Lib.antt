@@ -13,3 +13,4 @@ mod NeededLaws
 mod SharedSigns
 mod SharedTexts
 pub mod SameText
+pub mod KeyWords

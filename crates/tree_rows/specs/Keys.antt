@@ -1,5 +1,5 @@
 -- The moves of a tree, and their order (this project's own).
-use Rattle.std.specs.Prelude.{ℕ, Bool, List, [], ◌∷◌, Option, Some, None}
+use Rattle.std.specs.Prelude.{ℕ, ◌+◌, ◌*◌, Bool, List, [], ◌∷◌, Option, Some, None}
 use Rattle.std.specs.declared.cmp.Ordering.{Ordering}
 use Rattle.std.specs.Ordering.{nat_cmp, is_eq}
 use Rattle.std.specs.Cmp.Lexicographic.{slice_cmp}
@@ -15,6 +15,11 @@ key_numbers None = 1 ∷ 0 ∷ 0 ∷ 0 ∷ []
 -- Keys stand by the first square, then the target, then the promotion.
 unfoldable pub key_cmp : Option Move → Option Move → Ordering
 key_cmp a b = slice_cmp nat_cmp (key_numbers a) (key_numbers b)
+
+-- The four numbers as the bytes of one. Only a private function cites this.
+abbrev pub key_word : Option Move → ℕ
+key_word (Some m) = 256 * (256 * m.from + m.to) + promotion_number m.promo
+key_word None = 16777216
 
 -- Whether two keys are the same.
 abbrev pub same_key : Option Move → Option Move → Bool

@@ -1,17 +1,17 @@
 //! The order of the keys of rows.
-ghost use Rattle.std.specs.Prelude.{◌≡◌};
+ghost use Rattle.std.specs.Prelude.{◌≡◌, ◌<◌, MatchOption};
 ghost use Rattle.chess_laws.specs.Moves.{promotion_number};
-ghost use Rattle.tree_rows.specs.Keys.{key_cmp, key_numbers, same_key};
+ghost use Rattle.tree_rows.specs.Keys.{key_cmp, key_word, same_key};
 
 use cell_core::{Kind, Move};
 use std::cmp::Ordering;
 
 /// How two keys stand: by the first square, the target and the promotion, and none behind every move.
-#[tactic(auto, unfolding(crate::specs::Keys::key_cmp))]
+#[tactic(auto, using(crate::proofs::KeyWords::order_told))]
 pub(crate) fn key_order(a: &Option<Move>, b: &Option<Move>) -> Ordering
     ensures { result ≡ key_cmp a.now b.now }
 {
-    key_numbers(a).cmp(&key_numbers(b))
+    key_word(a).cmp(&key_word(b))
 }
 
 /// Whether two keys are the same.
@@ -21,13 +21,17 @@ pub fn same_key(a: &Option<Move>, b: &Option<Move>) -> bool
     key_order(a, b).is_eq()
 }
 
-// A key as numbers.
-fn key_numbers(key: &Option<Move>) -> [u8; 4]
-    ensures { result ≡ key_numbers key.now }
+// A key as one number, so that an order takes one comparison.
+fn key_word(key: &Option<Move>) -> u32
+    ensures word { result ≡ key_word key.now }
+    ensures squares { MatchOption key.now (Unit {0}) (λ m. (m.from < 64) × (m.to < 64)) }
 {
     match key {
-        Some(m) => [0, m.from.index(), m.to.index(), promotion_number(m.promo)],
-        None => [1, 0, 0, 0],
+        Some(m) => {
+            let squares = 256 * u32::from(m.from.index()) + u32::from(m.to.index());
+            256 * squares + u32::from(promotion_number(m.promo))
+        }
+        None => 256 * 256 * 256,
     }
 }
 

@@ -1,10 +1,11 @@
-use Rattle.std.proofs.Common.{ap, ◌∙◌}
+use Rattle.std.proofs.Common.{ap, subst, ◌∙◌}
 use Rattle.sig_index.specs.declared.pos_query.PosQuery.{PosQuery}
-use Rattle.sig_index.specs.Homes.{home_set}
-use Rattle.pos_search.proofs.BoardLemmas.{has_all}
+use Rattle.cell_core.specs.Board.{Men}
+use Rattle.pos_search.specs.Sought.{AreHomes, has_homes}
 use Rattle.pos_search.proofs.matching.Sought.has_homes.Goals as goal
 
 pub returns : goal.returns
 returns c =
-    has_all c.args.p.now c.args.self.now.board c.home_set.result c.self.inside.homes c.home_set.ensures.bits
-    (c.self.invariant.at_home ∙ ap (λ (q : PosQuery). home_set q.board) c.self.view_is)
+    let sought = c.args.self.now.board in
+    c.stand_on.ensures sought (subst (λ (q : PosQuery). AreHomes q.board c.self.inside.at_home) c.self.view_is c.self.invariant.stand)
+    ∙ ap (has_homes sought) c.board.ensures.board
