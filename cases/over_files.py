@@ -12,6 +12,7 @@ PROGRAM = str(Path(sys.argv[1] if len(sys.argv) > 1 else TOP / "crates/scid_shel
 ENDINGS = ("si4", "sn4", "sg4")
 USAGE = 1
 BAD_BASE = 2
+WRITE_FAULT = 4
 FILES_FAULT = 5
 CHANGED_GAME = 6
 CHANGED = "another program changed it"

@@ -8,7 +8,9 @@ With --all every schedule of two runs is tried, and not a sample of them.
 import fcntl
 import itertools
 import os
+import pty
 import re
+import select
 import shutil
 import stat
 import subprocess
@@ -21,7 +23,7 @@ from pathlib import Path
 sys.dont_write_bytecode = True
 import races  # noqa: E402
 from over_files import (  # noqa: E402
-    BAD_BASE, BUSY, CHANGED, CHANGED_GAME, ENDINGS, FILES_FAULT, IN_THE_WAY, PROGRAM, SET_ASIDE, TOP, USAGE, Session, begin, calls_within, clear,
+    BAD_BASE, BUSY, CHANGED, CHANGED_GAME, ENDINGS, FILES_FAULT, IN_THE_WAY, PROGRAM, SET_ASIDE, TOP, USAGE, WRITE_FAULT, Session, begin, calls_within, clear,
     contents, fill, heads, held_back, make_base, put_right, run, traced, wait_for)
 
 
@@ -464,6 +466,67 @@ def lines_of_an_import_stand_while_it_waits(folder):
     assert output.splitlines() == [*rest, "imported 120 refused 0", "unsaved"], output
 
 
+def ten_thousand_lines_take_few_writes(folder):
+    """Lines that are there at once are answered with no more than 200 writes."""
+    calls, status, output, errors = traced(make_base(folder), "delete 1\nundelete 1\n" * 5000, "-e", "trace=write")
+    assert (status, errors) == (0, ""), (status, errors)
+    assert output.splitlines()[1:] == ["deleted 1", "undeleted 1"] * 5000 + ["unsaved"], output[-200:]
+    assert len(calls) <= 200, len(calls)
+    return f"{len(calls)} writes"
+
+
+def each_answer_stands_before_the_next_line(folder):
+    """Whoever waits for an answer before the next line gets it: over a pipe and on a terminal, at a desk and without."""
+    base = make_base(folder)
+    for words, tag in ([], ""), (["--desk"], "@2 "):
+        for terminal in False, True:
+            ours, theirs = pty.openpty() if terminal else os.pipe()
+            process = subprocess.Popen([PROGRAM, *words, base], stdin=subprocess.PIPE, stdout=theirs, stderr=subprocess.DEVNULL)
+            os.close(theirs)
+            assert answer(ours, b"\n"), (words, terminal)
+            for line, said in [("delete 1", "deleted 1"), ("what", "error: unknown command"), ("# nothing\nundelete 1", "undeleted 1")]:
+                process.stdin.write("".join(f"{tag}{part}\n" for part in line.split("\n")).encode())
+                process.stdin.flush()
+                shown = answer(ours, f"{tag}{said}".encode())
+                assert shown, (words, terminal, line)
+            process.stdin.close()
+            assert process.wait(60) == 0
+            os.close(ours)
+
+
+def answer(place, last):
+    """What comes at this place up to these bytes, or None where they don't come within a minute."""
+    shown, until = b"", time.monotonic() + 60
+    while last not in shown:
+        if not select.select([place], [], [], max(0, until - time.monotonic()))[0]:
+            return None
+        shown += os.read(place, 65536)
+    return shown
+
+
+def what_is_said_of_files_stands_behind_the_text(folder):
+    """One file takes the text and standard error: what is said of a file that is in the way stands behind the answers of the lines before."""
+    base = make_base(folder)
+    Path(f"{base}.si4.new").write_text("mine")
+    ran = subprocess.run([PROGRAM, base], input="delete 1\nsave\n", stdout=subprocess.PIPE, stderr=subprocess.STDOUT, text=True, timeout=60)
+    said = [line for line in ran.stdout.splitlines() if ".si4.new" not in line or IN_THE_WAY in line]
+    assert ran.returncode == FILES_FAULT, ran
+    assert [said[-3], said[-1]] == ["deleted 1", "files fault"] and IN_THE_WAY in said[-2], ran.stdout
+
+
+def a_run_whose_text_nobody_takes_ends(folder):
+    """No line is read on where the answer of the one before it can't be written, and that is a write fault."""
+    base = make_base(folder)
+    before = contents(folder)
+    session = Session(base)
+    session.process.stdout.close()
+    session.process.stdin.write("delete 1\n")
+    session.process.stdin.flush()
+    assert session.process.wait(60) == WRITE_FAULT
+    assert session.process.stderr.read() == "write fault\n"
+    assert contents(folder) == before
+
+
 def a_broken_off_run_that_was_not_alone(folder):
     """An index that was set aside beside files that no run leaves so: it is named, and nothing is touched, with `--create` and `--back` too."""
     base = make_base(folder)
@@ -521,6 +584,9 @@ def main():
         (a_mended_base_opens_again,),
         (a_word_that_is_no_text,),
         (lines_of_an_import_stand_while_it_waits,),
+        (each_answer_stands_before_the_next_line,),
+        (what_is_said_of_files_stands_behind_the_text,),
+        (a_run_whose_text_nobody_takes_ends,),
         (a_broken_off_run_that_was_not_alone,),
         *races.SHOWS,
     ]
@@ -528,6 +594,7 @@ def main():
         shows += [
             (files_are_handed_on_in_order,),
             (a_thousand_games_take_few_calls,),
+            (ten_thousand_lines_take_few_writes,),
             (a_new_file_that_grows_takes_no_place,),
             (a_file_that_changes_while_another_is_made_stays,),
             (an_addition_behind_another_ones_is_none,),

@@ -118,8 +118,17 @@ impl Place {
         ensures kept { (self.new.before ≡ self.old.here) ⊎ IsCalmBehind bytes.now }
     {
         if hangs_behind(bytes) {
-            self.before = self.here.copy();
+            self.keep_here();
         }
+    }
+
+    // Keeps the position as the one before the next move. It stands apart, so that a move behind which nothing hangs has no room made for
+    // the copy.
+    #[inline(never)]
+    fn keep_here(&mut self)
+        ensures kept { self.new ≡ with_before self.old.here self.old }
+    {
+        self.before = self.here.copy();
     }
 }
 

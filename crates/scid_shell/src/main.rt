@@ -12,10 +12,12 @@ use base_files::DeviceError;
 use messages::{CREATE, HELP, NO_ENDING, VERSION, message};
 use shell_session::{Status, session};
 use std::alloc::AllocError;
-use std::io::{ErrorKind, IsTerminal};
+use std::io::{ErrorKind, IsTerminal, Stdout};
 use std::process::ExitCode;
 use std::{env, fs, io};
-use std_devices::{DiskFiles, Shown, StdSink, StdSource, hold_standard_streams};
+use std_devices::{
+    AfterText, DiskFiles, Shown, StdSink, StdSource, TextOut, hold_standard_streams,
+};
 use tree_live::{TableView, TreeView};
 use watched_devices::{ProgressLine, Watched};
 
@@ -99,26 +101,53 @@ fn run(rt: &HostRuntime, words: &[String]) -> Result<Status, AllocError> {
         )?;
         views.push(Some(view))?;
     }
-    Ok(run_over(rt, words, &mut views))
+    let Ok(text) = text_out(rt) else {
+        return Ok(Status::Memory);
+    };
+    Ok(run_over(rt, words, &text, &mut views))
+}
+
+/// The standard output. On a terminal each text stands at once, so that what is said there of how far the run is can't come between.
+fn text_out(rt: &HostRuntime) -> io::Result<TextOut<Stdout>> {
+    if rt.stdout().is_terminal() {
+        TextOut::at_once(rt.alloc(), rt.stdout())
+    } else {
+        TextOut::new(rt.alloc(), rt.stdout())
+    }
 }
 
 /// Runs the session over the real files and streams, and says how far it is.
 fn run_over(
     rt: &HostRuntime,
     words: &[String],
+    text: &TextOut<Stdout>,
     views: &mut Vec<Option<Box<dyn TreeView>>>,
 ) -> Status
     requires few { length views.old.items ≤ 8 }
 {
     let line = ProgressLine::new(rt);
-    let mut files = Watched::new(DiskFiles::new(rt.alloc(), rt), &line);
-    let mut input = Watched::new(StdSource::new(rt.stdin()), &line);
-    let mut out = Watched::new(StdSink::new(rt.stdout()), &line);
+    let files = AfterText::new(DiskFiles::new(rt.alloc(), rt), text);
+    let mut files = Watched::new(files, &line);
+    let input = StdSource::new(AfterText::new(rt.stdin(), text));
+    let mut input = Watched::new(input, &line);
+    let mut out = Watched::new(StdSink::new(text), &line);
     let status = session(rt.alloc(), words, &mut files, &mut input, &mut out, views);
-    files.into_device().close();
+    files.into_device().into_device().close();
     let outcome = out.into_device().flush();
     line.clear();
-    flushed(status, outcome)
+    flushed(read_so_far(status, text.is_unread()), outcome)
+}
+
+/// The status of a session after all that it read: the session is done with that where its input was not read on, since its text could
+/// not be handed on. That fault is told when the last bytes are handed on.
+fn read_so_far(status: Status, is_unread: bool) -> Status
+    ensures kept { status ≢ done.ReadFault → result ≡ status }
+    ensures read { is_unread ≡ false → result ≡ status }
+{
+    match status {
+        Status::ReadFault if is_unread => Status::Done,
+        _ => status,
+    }
 }
 
 /// The status of a session whose last bytes were then handed on. A fault at that is told where the session was done, and

@@ -20,3 +20,4 @@ pub mod EndLemmas
 pub mod ReadLemmas
 pub mod SignedLemmas
 pub mod SigOf
+pub mod MarkLemmas

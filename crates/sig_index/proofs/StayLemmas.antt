@@ -176,13 +176,13 @@ touched_at p m t d e sound is case on home stands (inr to) =
     ap (λ (s : ℕ). is_man d Pawn (man_at (board_after p m e) s)) (sym to)
     ∙ to_by p m d e sound is case (subst (λ (s : ℕ). s < 64) (sym to) on) (ap rank_of to ∙ home) (ap (man_at p.board) to ∙ stands)
 
-touched : (m : Move) (t : ℕ) → touches m t ≡ true → (m.from ≡ t) ⊎ (m.to ≡ t)
+pub touched : (m : Move) (t : ℕ) → touches m t ≡ true → (m.from ≡ t) ⊎ (m.to ≡ t)
 touched m t h = elim (or_cases (eqb m.from t) (eqb m.to t) h) [
   | inl from ↦ inl (eqb-true m.from t from)
   | inr to ↦ inr (eqb-true m.to t to)
 ]
 
-untouched : (m : Move) (t : ℕ) → touches m t ≡ false → (t ≢ m.from) × (t ≢ m.to)
+pub untouched : (m : Move) (t : ℕ) → touches m t ≡ false → (t ≢ m.from) × (t ≢ m.to)
 untouched m t h =
     let parts = or_parts (eqb m.from t) (eqb m.to t) h in
     (λ same. true≢false (sym (eq-eqb m.from t (sym same)) ∙ parts.0), λ same. true≢false (sym (eq-eqb m.to t (sym same)) ∙ parts.1))
@@ -246,22 +246,22 @@ filter-home f [] = All-nil (λ v. f v ≡ true)
 filter-home f (x ∷ xs) = kept_home f (f x) x (filter f xs) refl (filter-home f xs)
 
 -- Where a move touches none, all stay.
-all_pass : (f : ℕ → Bool) (xs : List ℕ) → All (λ v. v < 16) xs → ((v : ℕ) → v < 16 → f v ≡ true) → filter f xs ≡ xs
-all_pass f [] small all = refl
-all_pass f (x ∷ xs) small all =
-    ap (λ t. cond t (x ∷ filter f xs) (filter f xs)) (all x (All-head (λ v. v < 16) x xs small))
-    ∙ ap (λ (rest : List ℕ). x ∷ rest) (all_pass f xs (All-tail (λ v. v < 16) x xs small) all)
+all_pass : (f : ℕ → Bool) (xs : List ℕ) → All (λ v. f v ≡ true) xs → filter f xs ≡ xs
+all_pass f [] all = refl
+all_pass f (x ∷ xs) all =
+    ap (λ t. cond t (x ∷ filter f xs) (filter f xs)) (All-head (λ v. f v ≡ true) x xs all)
+    ∙ ap (λ (rest : List ℕ). x ∷ rest) (all_pass f xs (All-tail (λ v. f v ≡ true) x xs all))
 
-none_pass : (f : ℕ → Bool) (xs : List ℕ) → All (λ v. v < 16) xs → ((v : ℕ) → v < 16 → f v ≡ true) → filter (λ v. not (f v)) xs ≡ []
-none_pass f [] small all = refl
-none_pass f (x ∷ xs) small all =
-    ap (λ t. cond (not t) (x ∷ filter (λ v. not (f v)) xs) (filter (λ v. not (f v)) xs)) (all x (All-head (λ v. v < 16) x xs small))
-    ∙ none_pass f xs (All-tail (λ v. v < 16) x xs small) all
+none_pass : (f : ℕ → Bool) (xs : List ℕ) → All (λ v. f v ≡ true) xs → filter (λ v. not (f v)) xs ≡ []
+none_pass f [] all = refl
+none_pass f (x ∷ xs) all =
+    ap (λ t. cond (not t) (x ∷ filter (λ v. not (f v)) xs) (filter (λ v. not (f v)) xs)) (All-head (λ v. f v ≡ true) x xs all)
+    ∙ none_pass f xs (All-tail (λ v. f v ≡ true) x xs all)
 
-pub untouched-stay : (m : Move) (homes : List ℕ) → All (λ v. v < 16) homes → ((v : ℕ) → v < 16 → stays m v ≡ true) → homes ≡ staying m homes
+pub untouched-stay : (m : Move) (homes : List ℕ) → All (λ v. stays m v ≡ true) homes → homes ≡ staying m homes
 unfolding staying
-untouched-stay m homes small none = sym (all_pass (stays m) homes small none)
+untouched-stay m homes all = sym (all_pass (stays m) homes all)
 
-pub untouched-gone : (m : Move) (homes left : List ℕ) → All (λ v. v < 16) homes → ((v : ℕ) → v < 16 → stays m v ≡ true) → left ≡ left ++ gone m homes
+pub untouched-gone : (m : Move) (homes left : List ℕ) → All (λ v. stays m v ≡ true) homes → left ≡ left ++ gone m homes
 unfolding gone
-untouched-gone m homes left small none = sym (ap (λ (rest : List ℕ). left ++ rest) (none_pass (stays m) homes small none) ∙ append-nil left)
+untouched-gone m homes left all = sym (ap (λ (rest : List ℕ). left ++ rest) (none_pass (stays m) homes all) ∙ append-nil left)

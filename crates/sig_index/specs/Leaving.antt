@@ -1,5 +1,5 @@
 -- Which pawns at home a move takes off their own squares, as the functions of this crate go through them.
-use Rattle.std.specs.Prelude.{◌≡◌, ℕ, not, true, All, Bool, List}
+use Rattle.std.specs.Prelude.{◌≡◌, ℕ, not, true, false, All, Bool, List, slice_index_or}
 use Rattle.std.specs.List.{filter}
 use Rattle.cell_core.specs.declared.step.Move.{Move}
 use Rattle.chess_laws.specs.Castling.{touches}
@@ -20,3 +20,7 @@ gone m homes = filter (λ value. not (stays m value)) homes
 -- The pawns of all these values are at home.
 abbrev pub AreHome : Setup → List ℕ → Type 0
 AreHome p homes = All (λ value. is_home p.board value ≡ true) homes
+
+-- The own squares of all these values are marked.
+abbrev pub AreMarked : List Bool → List ℕ → Type 0
+AreMarked marks homes = All (λ value. slice_index_or marks (home_square value) false ≡ true) homes

@@ -8,6 +8,7 @@ mod having;
 mod head_query;
 mod homes;
 mod laws;
+mod leaving;
 mod mat_query;
 mod mem_games;
 mod pos_query;

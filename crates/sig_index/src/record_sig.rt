@@ -8,7 +8,8 @@ ghost use Rattle.game_tree.specs.Replay.{plies_of};
 ghost use Rattle.game_tree.specs.declared.head.Tag.{Tag as TagValue};
 ghost use Rattle.sig_index.specs.Signature.{IsSig, IsSigBounded, all_homes, home_list, left_of};
 
-use crate::signature::{HOMES, HomeList, Sig, home_list, leave_by, material_of};
+use crate::leaving::Still;
+use crate::signature::{HomeList, Sig, home_list, material_of};
 use arrayvec::ArrayVec;
 use game_codec::{Reading, RecordFault};
 use index_entry::count_code;
@@ -60,17 +61,17 @@ fn left_along(reading: &mut Reading<'_>, own_start: bool) -> Result<HomeList, Re
         let Some(m) = reading.step()? else {
             return Ok(home_list(left.as_slice()));
         };
-        leave_by(&m, &mut still, &mut left);
+        still.leave_by(&m, &mut left);
     }
 }
 
 // The home values of the pawns that are looked for along a game.
-fn homes_at_start(own_start: bool) -> ArrayVec<u8, 16>
-    ensures homes { result.items ≡ (if own_start then [] else all_homes) }
+fn homes_at_start(own_start: bool) -> Still
+    ensures homes { result ≡ (if own_start then [] else all_homes) }
 {
     if own_start {
-        ArrayVec::new()
+        Still::none()
     } else {
-        ArrayVec::from(HOMES)
+        Still::all()
     }
 }

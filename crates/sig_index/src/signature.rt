@@ -1,21 +1,17 @@
 //! The signature of a game, by which searches pass it over unread.
-ghost use Rattle.std.specs.Prelude.{◌≡◌, ◌==◌, ◌≤◌, ◌<◌, ◌+◌, ◌++◌, ◌↔◌, ℕ, true, false, IsTrue, All, length, min};
-ghost use Rattle.chess_laws.specs.Counts.{counts_of, home_square};
+ghost use Rattle.std.specs.Prelude.{◌≡◌, ◌≤◌, length};
+ghost use Rattle.chess_laws.specs.Counts.{counts_of};
 ghost use Rattle.chess_laws.specs.Position.{start_setup};
 ghost use Rattle.index_entry.specs.Entry.{AreCounts};
 ghost use Rattle.game_tree.specs.Legal.{IsLegalGame};
 ghost use Rattle.game_tree.specs.Replay.{plies_of, position_at};
-ghost use Rattle.sig_index.specs.Leaving.{gone, stays, staying};
 ghost use Rattle.sig_index.specs.Signature.{IsSig, IsSigBounded, material_of, left_of, home_list};
 
+use crate::leaving::Still;
 use arrayvec::ArrayVec;
-use cell_core::{Move, Square};
 use chess_laws::Position;
 use game_tree::Game;
 use index_entry::count_code;
-
-/// The home values of all pawns.
-pub(crate) const HOMES: [u8; 16] = [0, 1, 2, 3, 4, 5, 6, 7, 8, 9, 10, 11, 12, 13, 14, 15];
 
 /// The home values of the pawns that left their own squares, in their order: `count` of them, at most 16, and zeros behind them. The
 /// home value of a pawn is 15 down to 8 for a2 to h2, and 7 down to 0 for a7 to h7.
@@ -104,69 +100,12 @@ fn left_along(g: &Game) -> HomeList
     ensures left { result ≡ home_list (left_of g.now) }
 {
     let line = g.line.as_slice();
-    let mut still = ArrayVec::from(HOMES);
+    let mut still = Still::all();
     let mut left = ArrayVec::new();
     for node in line {
-        leave_by(&node.mv, &mut still, &mut left);
+        still.leave_by(&node.mv, &mut left);
     }
     home_list(left.as_slice())
-}
-
-/// Takes the values at whose own squares a move begins or ends out of `still`, and adds them to `left`. Of pawns that are at home just
-/// these leave, by moving or by being captured.
-pub(crate) fn leave_by(m: &Move, still: &mut ArrayVec<u8, 16>, left: &mut ArrayVec<u8, 16>)
-    requires values { All (λ value. value < 16) still.old.items }
-    requires room { length still.old.items + length left.old.items ≤ 16 }
-    ensures still { still.new.items ≡ staying m.now still.old.items }
-    ensures left { left.new.items ≡ left.old.items ++ gone m.now still.old.items }
-{
-    if touches_none(m) {
-        return;
-    }
-    leave(m, still, left)
-}
-
-// Whether a move begins and ends on other ranks than the own ones of pawns.
-fn touches_none(m: &Move) -> bool
-    ensures none { result ≡ true → (value : ℕ) → value < 16 → stays m.now value ≡ true }
-{
-    !is_on_own_rank(m.from) && !is_on_own_rank(m.to)
-}
-
-// Whether a square is the own one of some pawn.
-fn is_on_own_rank(square: Square) -> bool
-    ensures none { result ≡ false → (value : ℕ) → value < 16 → (square == home_square value) ≡ false }
-{
-    let n = square.index();
-    (8 <= n && n < 16) || (48 <= n && n < 56)
-}
-
-// The same for any move, one value at a time.
-#[tactic(auto, using(std::proofs::lemmas::List::Elements::filter_more), unfolding(crate::specs::Leaving::staying, crate::specs::Leaving::gone))]
-fn leave(m: &Move, still: &mut ArrayVec<u8, 16>, left: &mut ArrayVec<u8, 16>)
-    requires values { All (λ value. value < 16) still.old.items }
-    requires room { length still.old.items + length left.old.items ≤ 16 }
-    ensures still { still.new.items ≡ staying m.now still.old.items }
-    ensures left { left.new.items ≡ left.old.items ++ gone m.now still.old.items }
-{
-    let mut stay = ArrayVec::new();
-    for value in still.as_slice() {
-        if stays(m, *value) {
-            stay.push(*value);
-        } else {
-            left.push(*value);
-        }
-    }
-    *still = stay;
-}
-
-// Whether a move neither begins nor ends at the own square of a value.
-fn stays(m: &Move, value: u8) -> bool
-    requires { value < 16 }
-    ensures { result ≡ stays m.now value }
-{
-    let own = if value < 8 { 55 - value } else { 23 - value };
-    m.from.index() != own && m.to.index() != own
 }
 
 /// These values with zeros behind them.

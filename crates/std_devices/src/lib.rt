@@ -18,6 +18,7 @@ mod shown;
 mod std_sink;
 mod std_source;
 mod streams;
+mod text_out;
 mod trouble;
 mod waiting;
 
@@ -27,3 +28,4 @@ pub use shown::Shown;
 pub use std_sink::StdSink;
 pub use std_source::StdSource;
 pub use streams::hold_standard_streams;
+pub use text_out::{AfterText, TextOut};

@@ -11,10 +11,10 @@ use Rattle.sig_index.proofs.record_sig.left_along.Given as goal
 abbrev pub invariant-moves : goal.invariant-moves
 invariant-moves l = record {
   bytes : l.reading.bytes ≡ l.fn.reading.bytes;
-  values : All (λ v. v < 16) l.still.items;
-  room : length l.still.items + length l.left.items ≤ 16;
-  leaves : (tags : List Tag) (game : GameTree) → IsRecord l.fn.reading.bytes tags game → Leaves l.own_start game l.reading.ply l.still.items l.left.items;
-  home : AreHome l.reading.position l.still.items;
+  values : All (λ v. v < 16) l.still;
+  room : length l.still + length l.left.items ≤ 16;
+  leaves : (tags : List Tag) (game : GameTree) → IsRecord l.fn.reading.bytes tags game → Leaves l.own_start game l.reading.ply l.still l.left.items;
+  home : AreHome l.reading.position l.still;
 }
 
 abbrev pub decreases-moves : goal.decreases-moves

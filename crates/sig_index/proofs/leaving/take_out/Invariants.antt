@@ -1,6 +1,6 @@
 use Rattle.std.proofs.Common.{◌≡◌, ◌++◌, take, length, ◌+◌}
 use Rattle.sig_index.specs.Leaving.{staying, gone}
-use Rattle.sig_index.proofs.signature.leave.Given as goal
+use Rattle.sig_index.proofs.leaving.take_out.Given as goal
 
 abbrev pub invariant-loop-value : goal.invariant-loop-value
 invariant-loop-value l = record {
