@@ -440,6 +440,22 @@ def reaching(games, chosen, first, depth):
     return reached, counts, plies
 
 
+def look_at_leading(pages, games, chosen):
+    """The rows of a page lead to each page that a game which stands there reaches by its next move, and to no other."""
+    paged = {page.position(): name for name, page in pages.items() if name != "others.html"}
+    led = {board: set() for board in paged}
+    for number in chosen:
+        boards = games[number]
+        for board in dict.fromkeys(boards[:-1]):
+            behind = boards[boards.index(board) + 1]
+            if board in paged and behind in paged:
+                led[board].add(file_name(*behind))
+    for board, name in paged.items():
+        links = [link for (_, link), *_ in pages[name].rows[1:] if link]
+        if sorted(links) != sorted(led[board]):
+            fail(f"the moves of {name} lead to {links}, and not to {sorted(led[board])}")
+
+
 def look_at_games(pages, played, reached, players, games):
     """Each page lists the best rated games, and of those of equal ratings the newest; and each of them has a page."""
     listed = set()
@@ -515,6 +531,7 @@ def look_at_book(program, shell, base, games, players, depth, least, start=None,
     if (left > 0) != ("others.html" in pages):
         fail("others.html is there without a page, or is not")
     look_at_boards(pages, side or "white")
+    look_at_leading(pages, games, chosen)
     look_at_games(pages, played, reached, players, games)
     look_at_played(pages, played, games, players, shell, base)
     look_at_links(pages, played, folder)

@@ -1,6 +1,6 @@
 -- On which board a position stands.
 use Rattle.std.proofs.Common.{◌≡◌, ◌<◌, ◌&&◌, ℕ, true, false, eqb, List, [], get_or, length, Option, None, Some, refl, sym, ap, ◌∙◌, subst, arith, inl, inr, rules, true≢false}
-use Rattle.std.specs.Prelude.{All, is_some, nat_eq, position, slice_get}
+use Rattle.std.specs.Prelude.{All, IfSome, is_some, nat_eq, position, slice_get}
 use Rattle.std.specs.Bool.{Decides}
 use Rattle.std.specs.Cmp.Lexicographic.{pointwise}
 use Rattle.std.specs.List.{IsDistinct, list_any}
@@ -9,7 +9,7 @@ use Rattle.std.proofs.lemmas.Bool.Decides.{Decides-and, Decides-eqb, Decides-lik
 use Rattle.std.proofs.lemmas.List.Folds.{list_any_at}
 use Rattle.std.proofs.lemmas.List.Quantifiers.{position-Some}
 use Rattle.std.proofs.lemmas.Map.Keys.{apart_from_distinct}
-use Rattle.std.proofs.lemmas.Option.{get_or_from_slice_get, slice_get_within}
+use Rattle.std.proofs.lemmas.Option.{get_or_from_slice_get, slice_get-get_or, slice_get_within}
 use Rattle.std.proofs.lemmas.Slice.Eq.{slice_eq-Decides}
 use Rattle.cell_core.specs.contracts.man.ColourPartialEq.TheImpl as colour
 use Rattle.cell_core.specs.declared.man.Colour.{Colour}
@@ -21,7 +21,8 @@ use Rattle.cell_core.proofs.Same.{same_colour-Decides, same_men-Decides}
 use Rattle.chess_laws.specs.declared.setup.Setup.{Setup}
 use Rattle.pos_search.specs.Matching.{matches}
 use Rattle.sig_index.proofs.LeavingLemmas.{same_tests}
-use Rattle.book_pages.specs.Keeping.{is_at, packed_eq, query_of}
+use Rattle.book_pages.specs.Book.{packed_eq}
+use Rattle.book_pages.specs.Keeping.{is_at, query_of}
 
 same_parts : (a b : Packed) → a.cells ≡ b.cells → a.side ≡ b.side → a ≡ b
 same_parts a b cells side = λ i. record { cells = cells i; side = side i }
@@ -69,6 +70,12 @@ same_match key board p packed is back =
 abbrev pub no_board : Packed
 no_board = record { cells = []; side = White }
 
+-- The board with the number that was found is the one that was looked for.
+board_at : (keys : List Packed) (board : Packed) (number : ℕ) → position (packed_eq board) keys ≡ Some number → slice_get keys number ≡ Some board
+board_at keys board number found =
+    let at = position-Some (packed_eq board) keys number no_board found in
+    slice_get-get_or keys number no_board at.0 ∙ ap Some (sym ((packed_eq-Decides board (get_or keys number no_board)).0 at.1))
+
 -- The board that was found has its number, and no other board has.
 found_at : (keys : List Packed) (board : Packed) (number : ℕ) → IsDistinct packed_eq keys → position (packed_eq board) keys ≡ Some number
     → (k : ℕ) → k < length keys → packed_eq board (get_or keys k no_board) ≡ eqb number k
@@ -90,6 +97,11 @@ found_at keys board number distinct found k lt =
             | inr fails ↦ fails ∙ (let t : false ≡ eqb number k = elim rest [ inl less ↦ grind (arith, less) | inr more ↦ grind (arith, more) ] in t)
           ]
     ]
+
+pub page_found : (keys : List Packed) (board : Packed) (found : Option ℕ) → found ≡ position (packed_eq board) keys
+    → IfSome found (λ number. slice_get keys number ≡ Some board)
+page_found keys board (Some number) is = board_at keys board number (sym is)
+page_found keys board None is = tt
 
 -- A board that is not there is none of them.
 absent_at : (keys : List Packed) (board : Packed) → list_any (packed_eq board) keys ≡ false → (k : ℕ) → k < length keys → packed_eq board (get_or keys k no_board) ≡ false

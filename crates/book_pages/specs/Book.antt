@@ -1,5 +1,7 @@
 -- A book as contracts see it, and what its pages show (this project's own).
-use Rattle.std.specs.Prelude.{◌≡◌, ℕ, List, Option, Some, slice_get}
+use Rattle.std.specs.Prelude.{◌≡◌, ℕ, Bool, List, Option, Some, slice_get}
+use Rattle.std.specs.List.{list_any}
+use Rattle.cell_core.specs.contracts.packed.PackedBoardPartialEq.TheImpl as packed_impl
 use Rattle.cell_core.specs.Packed.{Packed, men_of}
 use Rattle.game_tree.specs.Game.{GameTree}
 use Rattle.game_tree.specs.declared.head.Head.{Head}
@@ -11,6 +13,14 @@ use Rattle.book_pages.specs.Hits.{exactly, tree_hits}
 pub record Pages : Type 0 where
   pub boards : List Packed
   pub rows : List (List Row)
+
+-- The test by which packed boards are compared: word by word, and the sides.
+abbrev pub packed_eq : Packed → Packed → Bool
+packed_eq = (packed_impl.ghosts).eq
+
+-- Whether a board is one of these.
+abbrev pub has_page : Packed → List Packed → Bool
+has_page board boards = list_any (packed_eq board) boards
 
 -- The rows of each page are those of the tree of its board and side, over the games of a filter.
 abbrev pub ShowTrees : List (Option ℕ) → List Head → List GameTree → Pages → Type 0

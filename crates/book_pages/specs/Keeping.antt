@@ -4,7 +4,6 @@ use Rattle.std.specs.Option.{option_or}
 use Rattle.cell_core.specs.declared.man.Colour.{Colour}
 use Rattle.cell_core.specs.declared.step.Move.{Move}
 use Rattle.cell_core.specs.Board.{Men}
-use Rattle.cell_core.specs.contracts.packed.PackedBoardPartialEq.TheImpl as packed_impl
 use Rattle.cell_core.specs.Packed.{ArePacked, Packed, men_of}
 use Rattle.chess_laws.specs.Counts.{counts_of}
 use Rattle.game_tree.specs.Game.{GameTree}
@@ -18,6 +17,7 @@ use Rattle.tree_rows.specs.MoveText.{IsKey}
 use Rattle.tree_rows.specs.Rows.{AreRows, rows_of}
 use Rattle.tree_rows.specs.declared.hit.GameHit.{GameHit}
 use Rattle.tree_rows.specs.declared.row.Row.{Row}
+use Rattle.book_pages.specs.Book.{packed_eq}
 use Rattle.book_pages.specs.Hits.{exactly, hit_if_in, hits_below}
 use Rattle.book_pages.specs.declared.counting.Counted.{Counted}
 
@@ -108,10 +108,6 @@ AreMetNoMore boards game ply =
 -- How many men are on a board, kings not counted.
 abbrev pub men_in : Men → ℕ
 men_in men = sum (counts_of men)
-
--- The test by which packed boards are compared.
-abbrev pub packed_eq : Packed → Packed → Bool
-packed_eq = (packed_impl.ghosts).eq
 
 -- A board is that of its men, and has at least so many.
 pub record IsBoard (fewest : ℕ) (board : Packed) : Type 0 where

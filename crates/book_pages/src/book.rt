@@ -46,13 +46,13 @@ impl Model for Book {
 }
 
 impl Book {
-    ghost use Rattle.std.specs.Prelude.{◌≡◌, ◌≤◌, ◌<◌, ◌+◌, ◌^◌, All, List, Some, length, IfOk, IfErr, slice_get};
+    ghost use Rattle.std.specs.Prelude.{◌≡◌, ◌≤◌, ◌<◌, ◌+◌, ◌^◌, All, List, Some, length, IfOk, IfErr, IfSome, is_some, slice_get};
     ghost use Rattle.cell_core.specs.Packed.{Packed, men_of};
     ghost use Rattle.game_tree.specs.Game.{GameTree};
     ghost use Rattle.sig_index.specs.Games.{AreWithin, Holds};
     ghost use Rattle.tree_rows.specs.MoveText.{IsKey};
     ghost use Rattle.book_pages.specs.Asking.{price};
-    ghost use Rattle.book_pages.specs.Book.{ShowTrees};
+    ghost use Rattle.book_pages.specs.Book.{ShowTrees, has_page};
     ghost use Rattle.book_pages.specs.Causes.{HasBookCause};
 
     /// The pages of these boards, the first of which is the start of the book, over the games of a filter: at most 16,777,214 games, and
@@ -121,9 +121,12 @@ impl Book {
         self.boards.as_slice()[number]
     }
 
-    /// Whether a board has a page.
-    pub fn has(&self, board: &PackedBoard) -> bool {
-        self.boards.get_index_of(board).is_some()
+    /// The page of a board, if it has one.
+    pub fn page_of(&self, board: &PackedBoard) -> Option<usize>
+        ensures has { is_some result ≡ has_page board.now self.now.boards }
+        ensures page { IfSome result (λ page. slice_get self.now.boards page ≡ Some board.now) }
+    {
+        self.boards.get_index_of(board)
     }
 
     /// The rows of a page, in the order of their keys. Each key is a move that is legal from some position of its board and side, or none.
@@ -140,14 +143,6 @@ impl Book {
         match self.trails.get(number) {
             Some(trail) => trail.listing.games(),
             None => &[],
-        }
-    }
-
-    /// The page that the move of a row of a page leads to, if there is one.
-    pub fn led(&self, number: usize, row: &Row) -> Option<usize> {
-        match (self.trails.get(number), &row.key) {
-            (Some(trail), Some(mv)) => trail.behind(mv),
-            _ => None,
         }
     }
 
@@ -176,7 +171,7 @@ fn tallies_of(alloc: Global, pages: usize) -> Result<Vec<Tally>, AllocError>
 fn trails_of(alloc: Global, pages: usize) -> Result<Vec<Trail>, AllocError> {
     let mut trails = Vec::new(alloc);
     for _page in 0..pages {
-        trails.push(Trail::new(alloc))?;
+        trails.push(Trail::new())?;
     }
     Ok(trails)
 }

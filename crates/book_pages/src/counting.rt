@@ -9,7 +9,8 @@ ghost use Rattle.game_tree.specs.declared.head.Tag.{Tag};
 ghost use Rattle.indexmap.specs.IndexSet.{IsUnique};
 ghost use Rattle.pos_search.specs.Matching.{matches};
 ghost use Rattle.tree_rows.specs.Hits.{hit_from};
-ghost use Rattle.book_pages.specs.Keeping.{AreBoards, AreMet, AreMetAt, AreMetNoMore, AreTallies, IsBelow, IsHere, Tallied, is_at, men_in, packed_eq, query_of};
+ghost use Rattle.book_pages.specs.Book.{packed_eq};
+ghost use Rattle.book_pages.specs.Keeping.{AreBoards, AreMet, AreMetAt, AreMetNoMore, AreTallies, IsBelow, IsHere, Tallied, is_at, men_in, query_of};
 ghost use Rattle.book_pages.specs.declared.counting.Course.TheVariants as course;
 
 use crate::tally::Tally;
@@ -116,7 +117,7 @@ fn count_here(
     meet(tallies, here, game, &next, side)?;
     match next {
         Some(m) => {
-            tracker.leave(here, m);
+            tracker.leave(m);
             Ok(Course::On)
         }
         None => Ok(Course::Over),

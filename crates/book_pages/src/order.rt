@@ -1,6 +1,11 @@
 //! The order of pages, and the ways that lead to them.
+ghost use Rattle.std.specs.Prelude.{◌<◌, length};
+ghost use Rattle.tree_rows.specs.MoveText.{IsKey};
+
 use crate::book::Book;
+use cell_core::{Board, Colour, Move, pack, unpack};
 use std::alloc::{AllocError, Global};
+use tree_rows::needed;
 
 /// The order in which the pages of a book are found: from the start on by the moves that most games made, page after page; and where
 /// pages are left that no page leads to, from each of them on in the same way.
@@ -89,13 +94,42 @@ impl Order {
         if page >= book.len() {
             return Ok(());
         }
-        let mut rows = Vec::from_slice(alloc, book.rows(page))?;
-        rows.sort_by_key(|row| u32::MAX - row.games)?;
-        for row in rows.as_slice() {
-            if let Some(to) = book.led(page, row) {
-                self.find(to, Some(page))?;
-            }
+        for to in pages_behind(alloc, book, page)?.as_slice() {
+            self.find(*to, Some(page))?;
         }
         Ok(())
     }
+}
+
+// The pages to which the moves of a page lead, by games falling.
+fn pages_behind(alloc: Global, book: &Book, page: usize) -> Result<Vec<usize>, AllocError>
+    requires page { page < length book.now.boards }
+{
+    let packed = book.board(page);
+    let (board, side) = unpack(&packed);
+    let rows = book.rows(page);
+    let mut led = Vec::new(alloc);
+    for row in rows {
+        if let Some(to) = page_behind(book, &board, side, &row.key) {
+            led.push((u32::MAX - row.games, to))?;
+        }
+    }
+    led.sort_by_key(|one| one.0)?;
+    let mut pages = Vec::with_capacity(alloc, led.len())?;
+    for one in led.as_slice() {
+        pages.push(one.1)?;
+    }
+    Ok(pages)
+}
+
+// The page to which a move from a board leads, if there is one.
+fn page_behind(book: &Book, board: &Board, side: Colour, key: &Option<Move>) -> Option<usize>
+    requires key { IsKey board.now side key.now }
+{
+    let Some(mv) = key else {
+        return None;
+    };
+    let mut position = needed(board, side, mv);
+    position.play(*mv);
+    book.page_of(&pack(position.board(), position.side()))
 }

@@ -5,13 +5,6 @@ use cell_core::Move;
 use chess_laws::Position;
 use std::alloc::{AllocError, Global};
 
-// A move from a board, and the number of the board that it leads to.
-#[derive(Clone, Copy, Debug)]
-struct Link {
-    mv: Move,
-    to: usize,
-}
-
 /// How the first game that reached a board came there: the position from which it came, and its moves.
 #[derive(Drop)]
 pub struct Way {
@@ -22,41 +15,21 @@ pub struct Way {
 /// What is known of a board beside its rows.
 #[derive(Drop)]
 pub(crate) struct Trail {
-    links: Vec<Link>,
     pub(crate) way: Option<Way>,
     pub(crate) listing: Listing,
 }
 
 impl Trail {
     /// Nothing is known.
-    pub(crate) fn new(alloc: Global) -> Trail {
+    pub(crate) fn new() -> Trail {
         Trail {
-            links: Vec::new(alloc),
             way: None,
             listing: Listing::new(),
         }
     }
-
-    /// The number of the board that a move leads to, if it has a page.
-    pub(crate) fn behind(&self, mv: &Move) -> Option<usize> {
-        for link in self.links.as_slice() {
-            if link.mv == *mv {
-                return Some(link.to);
-            }
-        }
-        None
-    }
-
-    // A move leads to another board.
-    fn link(&mut self, mv: Move, to: usize) -> Result<(), AllocError> {
-        if self.behind(&mv).is_none() {
-            self.links.push(Link { mv, to })?;
-        }
-        Ok(())
-    }
 }
 
-/// The trail of one game over the boards: where it began, the moves from there on, and the board that it left last.
+/// The trail of one game over the boards: where it began, and the moves from there on.
 #[derive(Drop)]
 pub(crate) struct Tracker {
     depth: usize,
@@ -68,14 +41,6 @@ pub(crate) struct Tracker {
     moves: ArrayVec<Move, 40>,
     // Whether it went on for more half-moves than a book has.
     over: bool,
-    left: Option<Left>,
-}
-
-// The board that was left by a move.
-#[derive(Clone, Copy)]
-struct Left {
-    place: usize,
-    mv: Move,
 }
 
 impl Tracker {
@@ -89,7 +54,6 @@ impl Tracker {
             start: None,
             moves: ArrayVec::new(),
             over: false,
-            left: None,
         }
     }
 
@@ -104,11 +68,6 @@ impl Tracker {
         let Some(to) = here else {
             return Ok(());
         };
-        if let Some(left) = self.left {
-            if let Some(trail) = trails.get_mut(left.place) {
-                trail.link(left.mv, to)?;
-            }
-        }
         if to == 0 && self.start.is_none() {
             self.start = Some(*position);
         }
@@ -136,9 +95,8 @@ impl Tracker {
         Ok(())
     }
 
-    /// The game leaves that board by a move.
-    pub(crate) fn leave(&mut self, here: Option<usize>, mv: Move) {
-        self.left = left_by(here, &mv);
+    /// The game goes on by a move.
+    pub(crate) fn leave(&mut self, mv: Move) {
         self.ply = self.ply.saturating_add(1);
         self.go_on(mv);
     }
@@ -153,13 +111,5 @@ impl Tracker {
         } else {
             self.over = true;
         }
-    }
-}
-
-// The board that is left by a move, if the game stands on one.
-fn left_by(here: Option<usize>, mv: &Move) -> Option<Left> {
-    match here {
-        Some(place) => Some(Left { place, mv: *mv }),
-        None => None,
     }
 }

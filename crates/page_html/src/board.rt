@@ -1,7 +1,6 @@
 //! Boards as pictures.
 ghost use Rattle.std.specs.Prelude.{◌<◌};
 
-use crate::numbers::push_attribute;
 use cell_core::{Board, Colour, Kind, Man, Move, Square};
 use std::alloc::{AllocError, Global};
 
@@ -96,7 +95,7 @@ fn push_kind(out: &mut Vec<u8>, board: &Board, man: Man) -> Result<(), AllocErro
         if board.at(Square::at(s)) == Some(man) {
             out.push(b' ')?;
             if man.kind != Kind::Pawn {
-                out.extend_from_slice(outline(man.kind))?;
+                out.extend_from_slice(kind_letter(man.kind))?;
             }
             push_square(out, s)?;
         }
@@ -117,9 +116,7 @@ pub(crate) fn push_square(out: &mut Vec<u8>, s: u8) -> Result<(), AllocError>
 fn push_last(out: &mut Vec<u8>, square: Square, below: Colour) -> Result<(), AllocError> {
     let (left, above) = seen_at(square.index(), below);
     out.extend_from_slice(b"<rect class=\"last\" width=\"45\" height=\"45\"")?;
-    push_attribute(out, b"x", 45 * u128::from(left))?;
-    push_attribute(out, b"y", 45 * u128::from(above))?;
-    out.extend_from_slice(b"/>")
+    push_place(out, left, above)
 }
 
 // The letters of the files and the digits of the ranks.
@@ -148,15 +145,69 @@ fn seen_at(s: u8, below: Colour) -> (u8, u8)
 
 // Adds a man on a square, by its outline.
 fn push_man(out: &mut Vec<u8>, man: Man, (left, above): (u8, u8)) -> Result<(), AllocError> {
-    out.extend_from_slice(b"<use href=\"#")?;
-    out.extend_from_slice(outline(man.kind))?;
     out.extend_from_slice(match man.colour {
-        Colour::White => b"\" class=\"white\"".as_slice(),
-        Colour::Black => b"\" class=\"black\"".as_slice(),
+        Colour::White => white_man(man.kind),
+        Colour::Black => black_man(man.kind),
     })?;
-    push_attribute(out, b"x", 45 * u128::from(left))?;
-    push_attribute(out, b"y", 45 * u128::from(above))?;
-    out.extend_from_slice(b"/>")
+    push_place(out, left, above)
+}
+
+// The outline of a white man.
+fn white_man(kind: Kind) -> &'static [u8] {
+    match kind {
+        Kind::King => b"<use href=\"#K\" class=\"white\"",
+        Kind::Queen => b"<use href=\"#Q\" class=\"white\"",
+        Kind::Rook => b"<use href=\"#R\" class=\"white\"",
+        Kind::Bishop => b"<use href=\"#B\" class=\"white\"",
+        Kind::Knight => b"<use href=\"#N\" class=\"white\"",
+        Kind::Pawn => b"<use href=\"#P\" class=\"white\"",
+    }
+}
+
+// The outline of a black man.
+fn black_man(kind: Kind) -> &'static [u8] {
+    match kind {
+        Kind::King => b"<use href=\"#K\" class=\"black\"",
+        Kind::Queen => b"<use href=\"#Q\" class=\"black\"",
+        Kind::Rook => b"<use href=\"#R\" class=\"black\"",
+        Kind::Bishop => b"<use href=\"#B\" class=\"black\"",
+        Kind::Knight => b"<use href=\"#N\" class=\"black\"",
+        Kind::Pawn => b"<use href=\"#P\" class=\"black\"",
+    }
+}
+
+// Adds where something stands, so many squares from the left and from above, and its end.
+fn push_place(out: &mut Vec<u8>, left: u8, above: u8) -> Result<(), AllocError> {
+    out.extend_from_slice(from_left(left))?;
+    out.extend_from_slice(from_above(above))
+}
+
+// The place of a file that is so many from the left.
+fn from_left(left: u8) -> &'static [u8] {
+    match left {
+        0 => b" x=\"0\"",
+        1 => b" x=\"45\"",
+        2 => b" x=\"90\"",
+        3 => b" x=\"135\"",
+        4 => b" x=\"180\"",
+        5 => b" x=\"225\"",
+        6 => b" x=\"270\"",
+        _ => b" x=\"315\"",
+    }
+}
+
+// The place of a rank that is so many from above, and the end of what stands there.
+fn from_above(above: u8) -> &'static [u8] {
+    match above {
+        0 => b" y=\"0\"/>",
+        1 => b" y=\"45\"/>",
+        2 => b" y=\"90\"/>",
+        3 => b" y=\"135\"/>",
+        4 => b" y=\"180\"/>",
+        5 => b" y=\"225\"/>",
+        6 => b" y=\"270\"/>",
+        _ => b" y=\"315\"/>",
+    }
 }
 
 /// The letter of a man: a capital is White's, a small letter Black's.
@@ -175,8 +226,8 @@ pub(crate) fn letter(man: Man) -> u8 {
     }
 }
 
-// The name of the outline of a kind of men.
-fn outline(kind: Kind) -> &'static [u8] {
+// The letter of a kind of men.
+fn kind_letter(kind: Kind) -> &'static [u8] {
     match kind {
         Kind::King => b"K",
         Kind::Queen => b"Q",

@@ -1,5 +1,5 @@
 //! What stands round a page, and the names of the files.
-ghost use Rattle.std.specs.Prelude.{◌≡◌, ◌+◌, ◌++◌, OnOk};
+ghost use Rattle.std.specs.Prelude.{◌≡◌, ◌+◌, ◌++◌, OnOk, codes};
 ghost use Rattle.cell_core.specs.Man.{kind_number};
 ghost use Rattle.cell_core.specs.Packed.{nibble_of};
 ghost use Rattle.page_html.specs.Names.{digits_below, file_of, hex_digit, side_text};
@@ -106,7 +106,10 @@ fn black_digit(kind: Kind) -> u8
 }
 
 /// Adds the beginning of a link to the page of a position.
-pub(crate) fn push_link(out: &mut Vec<u8>, packed: &PackedBoard) -> Result<(), AllocError> {
+#[tactic(auto, using(std::proofs::Common::append_assoc))]
+pub(crate) fn push_link(out: &mut Vec<u8>, packed: &PackedBoard) -> Result<(), AllocError>
+    ensures added { OnOk result (out.new.items ≡ out.old.items ++ (codes "<a href=\"" ++ (file_of packed.now ++ codes "\">"))) }
+{
     out.extend_from_slice(b"<a href=\"")?;
     file_name(out, packed)?;
     out.extend_from_slice(b"\">")

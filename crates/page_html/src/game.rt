@@ -1,11 +1,12 @@
 //! The page of a game.
+ghost use Rattle.std.specs.Prelude.{◌<◌};
 ghost use Rattle.chess_laws.specs.Step.{Legal};
 ghost use Rattle.game_tree.specs.Head.{IsBounded};
 ghost use Rattle.game_tree.specs.Legal.{IsLegalGame};
 
 use crate::board::{letter, push_boards, push_square};
 use crate::cutting::cut;
-use crate::frame::{file_name, push_head, push_title_end};
+use crate::frame::{push_head, push_title_end};
 use crate::games::push_known;
 use crate::numbers::push_number;
 use crate::site::Site;
@@ -31,7 +32,7 @@ pub(crate) fn push_game_page(
     requires bounded { IsBounded head.now }
 {
     push_front(out, site, head)?;
-    push_boards(out, game.start.board(), site.below(), &None)?;
+    push_start(out, site, &game.start)?;
     out.extend_from_slice(b"</div>\n<div class=\"tables\">\n")?;
     push_facts(out, head)?;
     push_line(alloc, out, site, game)?;
@@ -53,6 +54,14 @@ fn push_front(out: &mut Vec<u8>, site: &Site<'_>, head: &Head) -> Result<(), All
     out.extend_from_slice(
         b"</p>\n<nav class=\"way\" aria-label=\"Moves\"><a href=\"index.html\">Start</a></nav>\n</header>\n<main>\n<div class=\"boards\">\n",
     )
+}
+
+// Adds the board at the start of a game.
+fn push_start(out: &mut Vec<u8>, site: &Site<'_>, start: &Position) -> Result<(), AllocError> {
+    if start.is_start() {
+        return out.extend_from_slice(site.start_boards());
+    }
+    push_boards(out, start.board(), site.below(), &None)
 }
 
 // Adds the names of the players.
@@ -152,32 +161,56 @@ fn push_move(
     push_number(out, u128::from(ply))?;
     out.extend_from_slice(b"\" href=\"")?;
     let packed = pack(place.board(), place.side());
-    if site.book().has(&packed) {
-        file_name(out, &packed)?;
-    } else {
-        out.extend_from_slice(b"#m")?;
-        push_number(out, u128::from(ply))?;
+    match site.book().page_of(&packed) {
+        Some(page) => site.push_file(out, page)?,
+        None => {
+            out.extend_from_slice(b"#m")?;
+            push_number(out, u128::from(ply))?;
+        }
     }
     out.extend_from_slice(b"\" data-go=\"")?;
     push_square(out, mv.from.index())?;
     push_square(out, mv.to.index())?;
-    push_changes(out, &before, place.board())?;
+    push_changes(out, &before, place.board(), mv)?;
     out.extend_from_slice(b"\">")?;
     out.extend_from_slice(text.as_slice())?;
     out.extend_from_slice(b"</a>\n")
 }
 
-// Adds the squares on which two boards differ, each with the letter of the man that stands there on the second.
-fn push_changes(out: &mut Vec<u8>, before: &Board, after: &Board) -> Result<(), AllocError> {
-    for s in 0..64u8 {
-        let man = after.at(Square::at(s));
-        if man != before.at(Square::at(s)) {
-            out.push(b' ')?;
-            push_square(out, s)?;
-            if let Some(man) = man {
-                out.push(letter(man))?;
-            }
-        }
+// Adds the squares that a move changes, each with the letter of the man that stands there behind it. But for its target they are on the
+// rank from which it goes: there the rook stands with which the king castles, and the pawn that is taken en passant.
+fn push_changes(
+    out: &mut Vec<u8>,
+    before: &Board,
+    after: &Board,
+    mv: &Move,
+) -> Result<(), AllocError> {
+    let rank = mv.from.index() / 8;
+    let to = mv.to.index();
+    if to / 8 < rank {
+        push_change(out, before, after, to)?;
+    }
+    for file in 0..8u8 {
+        push_change(out, before, after, 8 * rank + file)?;
+    }
+    if to / 8 > rank {
+        push_change(out, before, after, to)?;
+    }
+    Ok(())
+}
+
+// Adds a square, if two boards differ on it, with the letter of the man that stands there on the second.
+fn push_change(out: &mut Vec<u8>, before: &Board, after: &Board, s: u8) -> Result<(), AllocError>
+    requires square { s < 64 }
+{
+    let man = after.at(Square::at(s));
+    if man == before.at(Square::at(s)) {
+        return Ok(());
+    }
+    out.push(b' ')?;
+    push_square(out, s)?;
+    if let Some(man) = man {
+        out.push(letter(man))?;
     }
     Ok(())
 }

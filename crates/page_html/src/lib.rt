@@ -2,6 +2,7 @@
 #![tactic(auto)]
 
 mod board;
+mod cells;
 mod cutting;
 mod frame;
 mod game;
@@ -17,6 +18,7 @@ mod text;
 mod way;
 
 pub use frame::{file_name, game_file_name};
+pub use moves::{Led, push_table};
 pub use openings::{Opening, Openings, OpeningsFault};
 pub use script::SCRIPT;
 pub use site::Site;

@@ -4,11 +4,10 @@ ghost use Rattle.game_tree.specs.Head.{IsBounded};
 ghost use Rattle.game_tree.specs.Legal.{IsLegalGame};
 
 use crate::board::push_boards;
-use crate::cutting::{next_line, next_word};
-use crate::frame::{push_head, push_link, push_title_end};
+use crate::frame::{file_name, push_head, push_title_end};
 use crate::game::push_game_page;
 use crate::games::push_games;
-use crate::moves::{Sums, push_moves_head, push_row, push_total};
+use crate::moves::{Led, push_table};
 use crate::openings::Openings;
 use crate::place::Place;
 use crate::text::push_text;
@@ -20,7 +19,6 @@ use chess_text::write_fen;
 use game_tree::{Game, Head};
 use sig_index::Games;
 use std::alloc::{AllocError, Global};
-use tree_rows::{Row, lines};
 
 /// What stands before the links to the pages that no page leads to.
 const OTHERS: &[u8] =
@@ -40,6 +38,10 @@ pub struct Site<'a> {
     side: Colour,
     // One for each page.
     places: Vec<Place<'a>>,
+    // The name of the file of each page.
+    files: Vec<Vec<u8>>,
+    // The boards of the initial position, with which most games begin.
+    start_boards: Vec<u8>,
 }
 
 impl<'a> Site<'a> {
@@ -54,9 +56,13 @@ impl<'a> Site<'a> {
         below: Colour,
     ) -> Result<Site<'a>, AllocError> {
         let mut places = Vec::new(alloc);
-        for _page in 0..book.len() {
+        let mut files = Vec::new(alloc);
+        for page in 0..book.len() {
             places.push(Place::unknown())?;
+            files.push(file_of(alloc, book, page)?)?;
         }
+        let mut start_boards = Vec::new(alloc);
+        push_boards(&mut start_boards, Position::start().board(), below, &None)?;
         Ok(Site {
             name,
             book,
@@ -65,6 +71,8 @@ impl<'a> Site<'a> {
             below,
             side: first_side(book),
             places,
+            files,
+            start_boards,
         })
     }
 
@@ -176,22 +184,21 @@ impl<'a> Site<'a> {
         }
     }
 
-    // Tells what is known of the page that the move of a row leads to, if it was found by that.
-    fn tell(&mut self, page: usize, to: Option<usize>, row: &Row, name: &[u8]) {
-        let (Some(to), Some(mv)) = (to, &row.key) else {
-            return;
-        };
-        if self.order.came(to) != Some(page) {
+    // Tells what is known of the page that a move of a page leads to, if it was found by that.
+    fn tell(&mut self, page: usize, led: &Led) {
+        if self.order.came(led.page) != Some(page) {
             return;
         }
-        let Some(board) = self.board(to) else {
-            return;
-        };
         let next = match self.places.get(page) {
-            Some(place) => place.next(mv, short(name), &board, self.openings),
+            Some(place) => place.next(
+                &led.mv,
+                short(led.text.as_slice()),
+                &led.board,
+                self.openings,
+            ),
             None => return,
         };
-        if let Some(known) = self.places.get_mut(to) {
+        if let Some(known) = self.places.get_mut(led.page) {
             *known = next;
         }
     }
@@ -214,10 +221,22 @@ impl<'a> Site<'a> {
 
     /// Adds the beginning of a link to a page.
     pub(crate) fn push_page_link(&self, out: &mut Vec<u8>, page: usize) -> Result<(), AllocError> {
-        match self.board(page) {
-            Some(board) => push_link(out, &board),
-            None => out.extend_from_slice(b"<a>"),
+        out.extend_from_slice(b"<a href=\"")?;
+        self.push_file(out, page)?;
+        out.extend_from_slice(b"\">")
+    }
+
+    /// Adds the name of the file of a page.
+    pub(crate) fn push_file(&self, out: &mut Vec<u8>, page: usize) -> Result<(), AllocError> {
+        match self.files.get(page) {
+            Some(file) => out.extend_from_slice(file.as_slice()),
+            None => Ok(()),
         }
+    }
+
+    /// The boards of the initial position.
+    pub(crate) fn start_boards(&self) -> &[u8] {
+        self.start_boards.as_slice()
     }
 
     // The board of a page, if there is one.
@@ -256,7 +275,7 @@ impl<'a> Site<'a> {
         out.extend_from_slice(b"</div>\n<div class=\"tables\">\n")?;
         out.extend_from_slice(to_move(side))?;
         self.push_opening(out, page)?;
-        self.push_table(alloc, out, book, page)
+        self.push_moves(alloc, out, book, page)
     }
 
     // Adds what stands before the board of a page to which these moves lead.
@@ -320,8 +339,8 @@ impl<'a> Site<'a> {
         out.extend_from_slice(b"</p>\n")
     }
 
-    // Adds the table of the moves of a page.
-    fn push_table(
+    // Adds the table of the moves of a page, and tells the pages that they lead to what is known of these.
+    fn push_moves(
         &mut self,
         alloc: Global,
         out: &mut Vec<u8>,
@@ -330,48 +349,22 @@ impl<'a> Site<'a> {
     ) -> Result<(), AllocError>
         requires page { page < length book.now.boards }
     {
-        let (board, side) = unpack(&book.board(page));
-        let mut text = Vec::new(alloc);
-        lines(alloc, book.rows(page), &board, side, &mut text)?;
-        let mut rows = Vec::from_slice(alloc, book.rows(page))?;
-        rows.sort_by_key(|row| u32::MAX - row.games)?;
-        push_moves_head(out)?;
-        self.push_moves(out, page, rows.as_slice(), text.as_slice())
+        let mut led = Vec::new(alloc);
+        push_table(alloc, out, &mut led, book, page)?;
+        for one in led.as_slice() {
+            self.tell(page, one);
+        }
+        Ok(())
     }
+}
 
-    // Adds the rows of the table of a page and their sums, where this is the text of the tree, whose lines begin with the moves of the rows.
-    fn push_moves(
-        &mut self,
-        out: &mut Vec<u8>,
-        page: usize,
-        rows: &[Row],
-        text: &[u8],
-    ) -> Result<(), AllocError> {
-        let total = Sums::of(rows);
-        if rows.is_empty() {
-            return push_total(out, &total);
-        }
-        out.extend_from_slice(b"<tbody>\n")?;
-        let mut rest = text;
-        for row in rows {
-            let (line, behind) = next_line(rest);
-            let name = next_word(line).0;
-            let to = self.book.led(page, row);
-            self.tell(page, to, row, name);
-            push_row(out, name, &Sums::one(row), total.games, self.linked(to))?;
-            rest = behind;
-        }
-        out.extend_from_slice(b"</tbody>\n")?;
-        push_total(out, &total)
-    }
-
-    // The board of the page that a move leads to.
-    fn linked(&self, to: Option<usize>) -> Option<PackedBoard> {
-        match to {
-            Some(page) => self.board(page),
-            None => None,
-        }
-    }
+// The name of the file of a page.
+fn file_of(alloc: Global, book: &Book, page: usize) -> Result<Vec<u8>, AllocError>
+    requires page { page < length book.now.boards }
+{
+    let mut file = Vec::new(alloc);
+    file_name(&mut file, &book.board(page))?;
+    Ok(file)
 }
 
 // The side to move on the first page.

@@ -1,6 +1,6 @@
 pub mod KeyLaws
 mod RowLaws
-mod Placing
+pub mod Placing
 mod Adding
 mod Finding
 pub mod HitKeys

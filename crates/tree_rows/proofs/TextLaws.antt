@@ -4,7 +4,8 @@ use Rattle.std.specs.Prelude.{sum_by}
 use Rattle.tree_rows.specs.declared.row.Row.{Row}
 use Rattle.tree_rows.specs.declared.numbers.Numbers.{Numbers}
 use Rattle.tree_rows.specs.TreeText.{averages_text, counts_text, line_of}
-use Rattle.tree_rows.specs.Keeping.{given_by, numbers_of, total_of}
+use Rattle.tree_rows.specs.Numbers.{numbers_of, total_of}
+use Rattle.tree_rows.specs.Keeping.{given_by}
 
 pub ruleset text_rules = (append_assoc, append-nil)
 

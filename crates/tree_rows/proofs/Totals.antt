@@ -3,7 +3,8 @@ use Rattle.std.proofs.Common.{◌≡◌, ℕ, ◌+◌, ◌<◌, List, [], length
 use Rattle.std.proofs.lemmas.List.Sums.{sum_by_more}
 use Rattle.tree_rows.specs.declared.row.Row.{Row}
 use Rattle.tree_rows.specs.declared.numbers.Numbers.{Numbers}
-use Rattle.tree_rows.specs.Keeping.{plus, total_of}
+use Rattle.tree_rows.specs.Numbers.{total_of}
+use Rattle.tree_rows.specs.Keeping.{plus}
 
 total-more : (rows : List Row) (i : ℕ) (d : Row) → i < length rows → total_of (take (i + 1) rows) ≡ plus (total_of (take i rows)) (get_or rows i d)
 unfolding total_of plus

@@ -1,6 +1,5 @@
 -- What the functions of this crate keep on their way.
 use Rattle.std.specs.Prelude.{◌≡◌, ℕ, zero, suc, ◌+◌, ◌-◌, ◌*◌, ◌^◌, ◌<◌, ◌≤◌, if◌then◌else◌, Bool, false, List, [], ◌∷◌, Option, None}
-use Rattle.std.specs.List.{sum_by}
 use Rattle.std.specs.Ordering.{match_ordering, is_lt}
 use Rattle.cell_core.specs.declared.step.Move.{Move}
 use Rattle.game_tree.specs.declared.head.Outcome.TheVariants.{Unknown, White, Black, Draw}
@@ -117,30 +116,6 @@ abbrev pub row_place : List Row → Row → ℕ
 row_place [] row = 0
 row_place (first ∷ rows) row = if row_before first row then row_place rows row + 1 else 0
 
--- Numbers by what is taken of each field of a row.
-abbrev pub numbers_by : ((Row → ℕ) → ℕ) → Numbers
-numbers_by taken =
-    record {
-      games = taken (λ row. row.games);
-      white = taken (λ row. row.white);
-      draws = taken (λ row. row.draws);
-      black = taken (λ row. row.black);
-      unfinished = taken (λ row. row.unfinished);
-      mover_sum = taken (λ row. row.mover_sum);
-      mover_rated = taken (λ row. row.mover_rated);
-      other_sum = taken (λ row. row.other_sum);
-      other_rated = taken (λ row. row.other_rated);
-      year_sum = taken (λ row. row.year_sum);
-      dated = taken (λ row. row.dated);
-    }
-
--- The numbers of a row, and their sums over all rows.
-abbrev pub numbers_of : Row → Numbers
-numbers_of row = numbers_by (λ field. field row)
-
-unfoldable pub total_of : List Row → Numbers
-total_of rows = numbers_by (λ field. sum_by field rows)
-
 -- What numbers give of each field.
 abbrev pub given_by : Numbers → (Row → ℕ) → ℕ
 given_by n field =
@@ -159,12 +134,6 @@ given_by n field =
       year_sum = n.year_sum;
       dated = n.dated;
     })
-
--- Numbers that can be counted with: those of rows that fit into memory.
-pub record AreSmall (n : Numbers) : Type 0 where
-  pub white : n.white < 2 ^ 100
-  pub draws : n.draws < 2 ^ 100
-  pub black : n.black < 2 ^ 100
 
 -- Numbers with those of a row more, and room for them.
 unfoldable pub plus : Numbers → Row → Numbers

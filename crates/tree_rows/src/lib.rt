@@ -18,7 +18,9 @@ pub use laws::{
     a_hit_changes_its_own_row_alone, keys_are_told_apart, rows_have_different_keys,
     rows_of_hits_have_one_text, texts_of_moves_are_shared,
 };
-pub use move_text::is_key;
+pub use move_text::{is_key, needed};
+pub use numbers::Numbers;
+pub use order::in_order;
 pub use row::Row;
 pub use rows::Rows;
 pub use writing::lines;

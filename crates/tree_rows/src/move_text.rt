@@ -2,6 +2,7 @@
 ghost use Rattle.std.specs.Prelude.{◌≡◌, ◌↔◌, IsTrue};
 ghost use Rattle.chess_laws.specs.Moves.{IsFrom};
 ghost use Rattle.chess_laws.specs.Position.{Sound, setup_of};
+ghost use Rattle.chess_laws.specs.Step.{Legal};
 ghost use Rattle.chess_text.specs.SanText.{san_text};
 ghost use Rattle.tree_rows.specs.MoveText.{IsKey, needed, right_needed, square_needed};
 
@@ -45,11 +46,12 @@ pub(crate) fn move_text(board: &Board, side: Colour, m: &Move) -> ArrayVec<u8, 8
     write_san(&needed(board, side, m), *m)
 }
 
-// That position.
+/// The position of this board and side whose only right and en passant square are those that a move needs. The move is legal there.
 #[tactic(auto, using(crate::proofs::NeededLaws::needed_is))]
-fn needed(board: &Board, side: Colour, m: &Move) -> Position
+pub fn needed(board: &Board, side: Colour, m: &Move) -> Position
     requires from { IsFrom board.now side m.now }
     ensures position { result ≡ needed board.now side m.now }
+    ensures legal { Legal result m.now }
 {
     let bare = placed(board, side, 0, None);
     let effect = bare.effect(m);

@@ -1,6 +1,7 @@
 //! The numbers of a row, and their sums over all rows.
 ghost use Rattle.std.specs.Prelude.{◌≡◌, ◌+◌, ◌-◌, ◌<◌, ◌≤◌, ◌^◌, ℕ};
-ghost use Rattle.tree_rows.specs.Keeping.{AreFew, AreSmall, AreWithin, numbers_of, plus, total_of};
+ghost use Rattle.tree_rows.specs.Numbers.{AreSmall, numbers_of, total_of};
+ghost use Rattle.tree_rows.specs.Keeping.{AreFew, AreWithin, plus};
 
 use crate::row::Row;
 
@@ -22,7 +23,7 @@ pub struct Numbers {
 
 impl Numbers {
     /// The numbers of a row.
-    pub(crate) fn of(row: &Row) -> Numbers
+    pub fn of(row: &Row) -> Numbers
         ensures numbers { result ≡ numbers_of row.now }
         ensures small { AreSmall result }
     {
@@ -42,7 +43,7 @@ impl Numbers {
     }
 
     /// The sums over all rows.
-    pub(crate) fn total(rows: &[Row]) -> Numbers
+    pub fn total(rows: &[Row]) -> Numbers
         ensures sums { result ≡ total_of rows.now }
         ensures small { AreSmall result }
     {

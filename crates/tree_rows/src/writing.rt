@@ -3,7 +3,8 @@ ghost use Rattle.std.specs.Prelude.{◌≡◌, ◌++◌, All, OnOk, OnErr, flat_
 ghost use Rattle.std.specs.Fmt.{decimal};
 ghost use Rattle.tree_rows.specs.MoveText.{IsKey};
 ghost use Rattle.tree_rows.specs.TreeText.{averages_text, counts_text, line_of, quotient, right_in, row_line, tree_text};
-ghost use Rattle.tree_rows.specs.Keeping.{AreSmall, given_by};
+ghost use Rattle.tree_rows.specs.Numbers.{AreSmall};
+ghost use Rattle.tree_rows.specs.Keeping.{given_by};
 
 use crate::move_text::move_text;
 use crate::numbers::Numbers;

@@ -1,5 +1,6 @@
 use Rattle.std.proofs.Common.{◌≡◌, take}
-use Rattle.tree_rows.specs.Keeping.{AreWithin, total_of}
+use Rattle.tree_rows.specs.Numbers.{total_of}
+use Rattle.tree_rows.specs.Keeping.{AreWithin}
 use Rattle.tree_rows.proofs.numbers.Numbers.total.Given as goal
 
 -- The sums of the rows so far.

@@ -1,0 +1,14 @@
+use Rattle.std.proofs.Common.{◌∙◌}
+use Rattle.std.specs.Prelude.{codes}
+use Rattle.tree_rows.specs.TreeText.{quotient}
+use Rattle.page_html.specs.Table.{cell, cell_start}
+use Rattle.page_html.proofs.Pieces.{three}
+use Rattle.page_html.proofs.cells.push_quotient_cell.Goals as goal
+
+pub returns : goal.returns
+unfolding cell
+returns c = record {
+  added = c.in_ok-extend_from_slice.ensures.items
+      ∙ three c.args.out.now.items (cell_start c.args.class.now) (quotient c.args.number c.args.by) (codes "</td>") c.begin_cell.new.out.items c.push_quotient.new.out.items
+      c.in_ok-begin_cell.ensures.added c.in_ok-push_quotient.ensures.added;
+}
