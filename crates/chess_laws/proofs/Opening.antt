@@ -1,11 +1,12 @@
 -- Who attacks after a move and did not before: the man that came, or one that slides.
-use Rattle.chess_laws.proofs.Words.{◌≡◌, ℕ, zero, suc, ◌⊎◌, inl, inr, ◌↔◌, IsTrue, Bool, true, Option, Some, None, length, refl, sym, ◌∙◌, ap, cases_eq, false≢true, Any, Decides, same_from_decides, OnFalse, OnTrue, not, false, Colour, Kind, King, Queen, Rook, Bishop, Man, Move, Men, man_at, put, man, other, Setup, Effect, Plain, Passing, Castle, Null, Offset, Walk, Runs, Attacks, IsInCheck, IsOnlyKing, is_calm, slides, in_check, Sound, king_square, rook_home, rook_target, passed_square, Hits, Shut, SlidesFrom, SlidesTo, effect_of, arriving, moved, board_after, after, Case, Legal}
+use Rattle.chess_laws.proofs.Words.{◌≡◌, ℕ, zero, suc, ◌⊎◌, inl, inr, ◌↔◌, IsTrue, Bool, true, Option, Some, None, length, refl, sym, ◌∙◌, ap, arith, cases_eq, false≢true, Any, Decides, same_from_decides, OnFalse, OnTrue, not, false, Colour, Kind, King, Queen, Rook, Bishop, Man, Move, Men, man_at, put, man, other, Setup, Effect, Plain, Passing, Castle, Null, Offset, Walk, Runs, Attacks, IsInCheck, IsOnlyKing, is_calm, slides, in_check, Sound, king_square, rook_home, rook_target, passed_square, Hits, Shut, SlidesFrom, SlidesTo, effect_of, arriving, moved, board_after, after, Case, Legal}
 use Rattle.chess_laws.proofs.Attackers.{by-attackers, hits-attack, slides-or-leaps}
 use Rattle.chess_laws.proofs.Boards.{length-put, man-colour, man-kind, on_board, other-other, put-same, put-other}
 use Rattle.chess_laws.proofs.Clear.{Slider}
 use Rattle.chess_laws.proofs.Keeping.{other-apart}
 use Rattle.chess_laws.proofs.Following.{going, Going}
 use Rattle.chess_laws.proofs.Soundness.{checked}
+use Rattle.chess_laws.proofs.Running.{walk-ends}
 use Rattle.chess_laws.proofs.MovedKings.{legal-of, moved-lands, only-king-after, king-stays, resting-king, legal-allowed, Sound-after}
 use Rattle.chess_laws.proofs.Kings.{king-stands, king-only}
 use Rattle.chess_laws.proofs.Deciding.{in_check-Decides}
@@ -70,17 +71,6 @@ module _ (men new : Men) (c : Colour) (stood : (q : ℕ) (k : Kind) → man_at n
     | inr over ↦ absurd (off (n, o, less, at, over))
   ]
 
-  walk-through : ((q : ℕ) → man_at new q ≡ None → man_at men q ≡ None) → (o : Offset) (n s f : ℕ) → Walk new o n s f → Walk men o n s f
-  walk-through empties o zero s f walk = walk
-  walk-through empties o (suc n) s f (q, step, empty, walk) = (q, step, empties q empty, walk-through empties o n q f walk)
-
-  slides-through : ((q : ℕ) → man_at new q ≡ None → man_at men q ≡ None) → (k : Kind) (s : ℕ) → Any (SlidesFrom new c k s) (slides k)
-      → Any (SlidesFrom men c k s) (slides k)
-  slides-through empties k s (n, o, less, at, l) =
-      let slid : SlidesFrom men c k s o =
-      record { from = l.from; on_board = l.on_board; stands = stood-sliding k l.from l.stands; target = l.target; runs = (l.runs.0, walk-through empties o l.runs.0 s l.from l.runs.1) } in
-      (n, o, less, at, slid)
-
 -- where the square is on no line of s, it hid nobody who slides to s
 pub slides-off : (men : Men) (c : Colour) (a s : ℕ) → length men ≡ 64 → (Any (Runs men s a) (slides Rook) → ⊥) → (Any (Runs men s a) (slides Bishop) → ⊥)
     → SlidesTo (put men a None) c s → SlidesTo men c s
@@ -111,11 +101,12 @@ moved-slides p m s g slid =
     let stood = λ (q : ℕ) (k : Kind) (h : man_at (moved p m) q ≡ Some (man (other p.side) k)).
     put-was gone m.to (arriving p m m.promo) q (man (other p.side) k) whole
     (λ here e. other-apart p.side (man-colour p.side (other p.side) g.becomes k (sym g.brings ∙ e))) h in
-    let empties = λ (q : ℕ) (empty : man_at (moved p m) q ≡ None).
+    let empties = λ (q : ℕ) (apart : q ≡ 64 → ⊥) (empty : man_at (moved p m) q ≡ None).
     sym (put-other gone m.to q (arriving p m m.promo) (λ here. cc (moved-lands p m g))) ∙ empty in
+    let off : (k : Kind) → Any (Runs gone s 64) (slides k) → ⊥ = λ k to. omega (arith, walk-ends gone to.1 to.4.0 s 64 to.4.1) in
     elim slid [
-      | inl any ↦ inl (slides-through gone (moved p m) (other p.side) stood empties Rook s any)
-      | inr any ↦ inr (slides-through gone (moved p m) (other p.side) stood empties Bishop s any)
+      | inl any ↦ inl (slides-over gone (moved p m) (other p.side) stood 64 s empties Rook (off Rook) any)
+      | inr any ↦ inr (slides-over gone (moved p m) (other p.side) stood 64 s empties Bishop (off Bishop) any)
     ]
 
 -- a calm move is one of a man that goes, and changes the board by him
