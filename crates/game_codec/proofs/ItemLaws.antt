@@ -10,7 +10,7 @@ use Rattle.game_codec.specs.Place.{Place, Takes, FaultAt, IsMisplaced}
 use Rattle.game_codec.specs.Token.{Token, Play, Nag, Comment, Open, Close, End}
 use Rattle.game_codec.specs.declared.fault.RecordWhat.{RecordWhat}
 use Rattle.game_codec.specs.declared.fault.RecordWhat.TheVariants as what
-use Rattle.game_codec.proofs.DecodedLaws.{to_decodes}
+use Rattle.move_codec.proofs.DecodedLaws.{to_decodes}
 
 -- An item with the bytes behind it, or a fault.
 abbrev Answer : Type 0

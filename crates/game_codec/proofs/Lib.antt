@@ -6,7 +6,6 @@ pub mod TagLaws
 pub mod TagsSoFar
 pub mod StartLaws
 pub mod TextLaws
-pub mod DecodedLaws
 pub mod ItemLaws
 pub mod ScanLaws
 pub mod MovetextLaws

@@ -11,7 +11,7 @@ use Rattle.game_codec.specs.TagReading.{BeginsTags}
 use Rattle.game_codec.specs.Start.{BeginsStart}
 use Rattle.game_codec.specs.Place.{Place, Takes, ending, beginning, after_move, after_comment, variation_of}
 use Rattle.game_codec.specs.Moves.{SpellsMoves}
-use Rattle.game_codec.proofs.DecodedLaws.{to_decodes}
+use Rattle.move_codec.proofs.DecodedLaws.{to_decodes}
 use Rattle.game_codec.proofs.TagReadingLaws.{tag_at-shorter}
 use Rattle.game_codec.specs.Record.{IsSpelled}
 use Rattle.game_codec.specs.Token.{Token, Play, Nag, Comment, Open, Close, End}

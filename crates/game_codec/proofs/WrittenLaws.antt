@@ -27,7 +27,7 @@ use Rattle.move_codec.specs.Packed.{encoding}
 use Rattle.move_codec.proofs.Apart.{encoding-apart}
 use Rattle.move_codec.proofs.RoundTrip.{round_trip}
 use Rattle.move_codec.proofs.Steps.{AreNumbers-step}
-use Rattle.game_codec.proofs.DecodedLaws.{from_decodes}
+use Rattle.move_codec.proofs.DecodedLaws.{from_decodes}
 use Rattle.game_codec.specs.Place.{Place, Takes, ending, numbered_after, beginning, after_move, after_comment, variation_of}
 use Rattle.game_codec.specs.Token.{Play}
 use Rattle.game_codec.specs.Moves.{SpellsMoves}
