@@ -1,7 +1,7 @@
 //! `scid_shell [--create] [--strict] [--desk] BASE`: runs the script on standard input over a Scid base, and writes its text on standard output.
 #![tactic(auto)]
 
-ghost use Rattle.std.specs.Prelude.{◌≡◌, ◌≢◌, ◌≤◌, MatchResult, length};
+ghost use Rattle.std.specs.Prelude.{◌≡◌, ◌≢◌, ◌≤◌, MatchResult, false, length};
 ghost use Rattle.base_files.specs.Causes.{output_stop};
 ghost use Rattle.session_status.specs.Stops.{status_of};
 ghost use Rattle.session_status.specs.declared.status.Status.TheVariants as done;
@@ -145,7 +145,13 @@ fn read_so_far(status: Status, is_unread: bool) -> Status
     ensures read { is_unread ≡ false → result ≡ status }
 {
     match status {
-        Status::ReadFault if is_unread => Status::Done,
+        Status::ReadFault => {
+            if is_unread {
+                Status::Done
+            } else {
+                Status::ReadFault
+            }
+        }
         _ => status,
     }
 }
