@@ -16,14 +16,15 @@ TOP = pathlib.Path(__file__).resolve().parent.parent
 MOST_WORDS, MOST_CHARACTERS, MOST_LINES = 40, 200, 3500
 TURNS = re.compile(
     r"\bit says so\b|\bthat is said\b|\bwhat comes over\b|\bwhere (?:it|they|one|that|these) (?:is|are|does|do) not\b"
-    r"|\bwhere that can't be\b|\bOf what (?:stands|stood|is)\b|\b[Hh]e\b|\b[Hh]is\b"
+    r"|\b(?:only|exactly|also) where\b|\b[Ww]here there (?:is|are)\b|\bwhere that can't be\b|\bOf what (?:stands|stood|is)\b|\b[Hh]e\b|\b[Hh]is\b"
 )
 LEFT = {
-    "docs/MENDING.md": (0, 9, 0),
+    "docs/MENDING.md": (0, 9, 2),
     "docs/PAGES.md": (0, 17, 0),
     "docs/speed/opening.md": (1, 1, 0),
     "docs/speed/page.md": (2, 4, 0),
-    "docs/speed/perft.md": (0, 1, 0),
+    "docs/speed/perft.md": (0, 1, 2),
+    "docs/speed/records.md": (0, 0, 1),
 }
 
 
