@@ -23,7 +23,7 @@ LEFT = {
     "docs/PAGES.md": (0, 17, 0),
     "docs/speed/opening.md": (1, 1, 0),
     "docs/speed/page.md": (2, 4, 0),
-    "docs/speed/perft.md": (0, 1, 1),
+    "docs/speed/perft.md": (0, 1, 0),
 }
 
 
