@@ -43,16 +43,18 @@ def names_there():
 
 def unknown_claims():
     """What the table of the session in docs/CLAIMS.md names: clauses of `session` outside of brackets, definitions in them."""
-    there = names_there()
-    own = {clause for call in claims.handed_out()["shell_session"] for clause, *_ in call.clauses}
+    there, calls = names_there(), claims.handed_out()
+    own = {clause for call in calls["shell_session"] for clause, *_ in call.clauses}
+    others = {clause for of_crate in calls.values() for call in of_crate for clause, *_ in call.clauses} - own
     for number, line in enumerate((TOP / claims.PAGE).read_text().partition(claims.MARK)[0].splitlines(), 1):
         cells = line.strip("|").split("|") if line.startswith("|") else ["", ""]
+        brackets = " ".join(re.findall(r"\([^)]*\)", cells[1]))
         for word in re.findall(r"`(\w+)`", re.sub(r"\([^)]*\)", "", cells[1])):
             if word not in own | there:
                 yield f"{claims.PAGE}:{number}: nothing is named {word}"
-            elif word in {clause for crate in claims.handed_out().values() for call in crate for clause, *_ in call.clauses} - own - {"lines_without_files"}:
+            elif word in others - {"lines_without_files"}:
                 yield f"{claims.PAGE}:{number}: session has no clause {word}"
-        for word in re.findall(r"`(\w+)`", " ".join(re.findall(r"\([^)]*\)", cells[1]))):
+        for word in re.findall(r"`(\w+)`", brackets):
             if word not in there:
                 yield f"{claims.PAGE}:{number}: nothing is named {word}"
 

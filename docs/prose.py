@@ -4,7 +4,8 @@
 Counted are sentences of more than 40 words, lines of more than 200 characters outside of tables and code, and some turns of phrase.
 A word is what stands between spaces, and a piece of code is one word.
 
-Usage: docs/prose.py [PAGE..]   the numbers of each page, and where each of them stands for the pages that are named
+Usage: docs/prose.py [PAGE..]         the numbers of each page, and where each of them stands for the pages that are named
+       docs/prose.py --wrap PAGE..    breaks the long lines of these pages, at the end of a sentence if there is one
 
 LEFT has what each page may have for now: sentences, lines, turns. docs/check.py fails above that. Lower a number when you rewrite a page.
 A page that is not in it has none. CHANGELOG.md is a history, and is not counted; nor is what scripts print."""
@@ -16,19 +17,13 @@ TOP = pathlib.Path(__file__).resolve().parent.parent
 MOST_WORDS, MOST_CHARACTERS, MOST_LINES = 40, 200, 3500
 TURNS = re.compile(
     r"\bit says so\b|\bthat is said\b|\bwhat comes over\b|\bwhere (?:it|they|one|that|these) (?:is|are|does|do) not\b"
-    r"|\bwhere that can't be\b|\bOf what (?:stands|stood|is)\b|\b[Hh]e\b|\b[Hh]is\b"
+    r"|\b(?:only|exactly|also) where\b|\b[Ww]here there (?:is|are)\b|\bwhere that can't be\b|\bOf what (?:stands|stood|is)\b|\b[Hh]e\b|\b[Hh]is\b"
 )
 LEFT = {
-    "docs/MENDING.md": (0, 9, 0),
-    "docs/PAGES.md": (0, 17, 0),
-    "docs/speed/find.md": (7, 8, 0),
-    "docs/speed/import.md": (4, 6, 0),
-    "docs/speed/opening.md": (2, 8, 0),
+    "docs/MENDING.md": (0, 9, 2),
+    "docs/speed/opening.md": (1, 1, 0),
     "docs/speed/page.md": (2, 4, 0),
-    "docs/speed/perft.md": (16, 16, 1),
-    "docs/speed/pgn.md": (5, 6, 2),
-    "docs/speed/positions.md": (0, 5, 0),
-    "docs/speed/records.md": (1, 9, 0),
+    "docs/speed/perft.md": (0, 1, 0),
 }
 
 
@@ -105,7 +100,41 @@ def faults():
         yield f"docs: the pages have {lines} lines that no script prints, where at most {MOST_LINES} are meant"
 
 
+def wrapped(line):
+    """A long line as several: each ends with a sentence, or else with a part of one. No code and no link is cut."""
+    lead, text = re.match(r"(\s*(?:(?:[-*]|\d+\.) )?)(.*)", line).groups()
+    kept = []
+
+    def keep(found):
+        kept.append(found[0])
+        return f"\0{len(kept) - 1}\0"
+
+    def shown(part):
+        return re.sub(r"\0(\d+)\0", lambda it: kept[int(it[1])], part)
+
+    sentences = re.split(r"(?<=[.!?:;])\s+", re.sub(r"``.*?``|`[^`]*`|!?\[[^\]]*\]\([^)]*\)", keep, text))
+    lines = [""]
+    for sentence in sentences:
+        parts = [sentence] if len(shown(sentence)) <= MOST_CHARACTERS - 20 else re.split(r"(?<=,)\s+", sentence)
+        for part in map(shown, parts):
+            if lines[-1] and len(lead) + len(lines[-1]) + 1 + len(part) > MOST_CHARACTERS - 15:
+                lines.append("")
+            lines[-1] += " " * bool(lines[-1]) + part
+    return [lead + lines[0], *(" " * len(lead) + it for it in lines[1:])]
+
+
+def wrap(page):
+    """Breaks the long lines of a page."""
+    long = {number for number, _ in long_lines(page)}
+    lines = page.read_text().splitlines()
+    page.write_text("".join(f"{it}\n" for number, line in enumerate(lines, 1) for it in (wrapped(line) if number in long else [line])))
+
+
 def main():
+    if sys.argv[1:2] == ["--wrap"]:
+        for name in sys.argv[2:]:
+            wrap(TOP / name)
+        return
     for page in pages():
         there = [[*count(page)] for _, count in COUNTED]
         if any(there):
