@@ -102,8 +102,13 @@ def left_out(fault):
     return mended([f"left out 0: {fault}"], 0, 1, [])
 
 
-def unnamed(fields, listed):
-    return mended([f"changed 0: index file: entry of game 0: no {fields} has its id"], 1, 1, [listed], changed=1)
+def changed(fault, listed):
+    """What a row wants of one game that comes over without what stands for nothing."""
+    return mended([f"changed 0: index file: entry of game 0: {fault}"], 1, 1, [listed], changed=1)
+
+
+def unnamed(field, listed):
+    return changed(f"no {field} has its id", listed)
 
 
 def too_few(length):
@@ -126,7 +131,7 @@ NO_NAMES = [f"{game} 0 {result} {date} - ? - ?" for game, result, date in
 ALL_UNNAMED = [f"changed {game}: index file: entry of game {game}: no white has its id" for game in range(4)]
 PAST = [f"left out {game}: games file: the record of game {game} ends behind the end of the file" for game in range(4)]
 
-# The table of docs/MENDING.md: twenty ways in which a base is spoilt.
+# The table of docs/MENDING.md: the ways in which a base is spoilt.
 WAYS = [
     ("1. an index cut in its third entry", cut(MANY, INDEX, ENTRIES + 2 * 47 + 10),
      mended(["counted 4, found 2", f"left out 2 to 3: {too_few(ENTRIES + 2 * 47 + 10)}"], 2, 4, MANY_LISTED[:2])),
@@ -163,6 +168,10 @@ WAYS = [
     ("19. a record that crosses a block", with_bytes(MANY, INDEX, ENTRIES, b"\x00\x01\xff\xfe"),
      mended(["left out 0: games file: the record of game 0 crosses the end of a block"], 3, 4, renumbered(MANY_LISTED[1:], 0))),
     ("20. a derived field that differs", with_bytes(MANY, INDEX, ENTRIES + 39, b"\x5b"), WHOLE),
+    ("21. a result of no kind", entry_of_one(21, b"\x40"), changed("no such result", LISTED.replace("1-0", "*"))),
+    ("22. an ECO code of none", entry_of_one(23, b"\xff\xdd"), changed("no such ECO code", LISTED.replace("B15", "-"))),
+    ("23. a date of a month above twelve", entry_of_one(25, b"\x00\x0e\xed\xa0"), changed("a month above twelve", LISTED.replace("1910", "????"))),
+    ("24. a rating of no kind", entry_of_one(29, b"\x70\x01"), changed("no such kind of rating", LISTED)),
 ]
 
 ROWS = [
@@ -173,8 +182,11 @@ ROWS = [
     ("an index with a part of an entry behind it", (MANY[INDEX] + bytes(46), *MANY[1:]), WHOLE),
     ("an index of another magic and version", with_bytes(with_bytes(MANY, INDEX, 0, b"\0"), INDEX, 8, b"\0\0"),
      mended(["index file: not an index; its entries are tried"], 4, 4, MANY_LISTED)),
-    ("a result of no kind", entry_of_one(21, b"\x40"), left_out("index file: entry of game 0: no such result")),
-    ("a rating of no kind", entry_of_one(29, b"\x70\x01"), left_out("index file: entry of game 0: no such kind of rating")),
+    ("an event's date of a month above twelve", entry_of_one(25, b"\x9a\x0e\xec\x00"), changed("a month above twelve", LISTED)),
+    ("Black's rating of no kind", entry_of_one(31, b"\xf0\x01"), changed("no such kind of rating", LISTED)),
+    ("a result of no kind, a code of none, a late month and no name", with_bytes(entry_of_one(21, b"\x40\x00\xff\xdd\x00\x0e\xed\xa0"), INDEX, ENTRIES + 12,
+                                                                                b"\x00\x02"),
+     changed("no such result", "0 0 * ????.??.?? - Reti, Richard - ?")),
     ("black without a name", entry_of_one(12, b"\x00\x02"), unnamed("black", "0 0 1-0 1910.??.?? B15 Reti, Richard - ?")),
     ("a record past the end", entry_of_one(4, b"\x00\x1a"), left_out("games file: the record of game 0 ends behind the end of the file")),
     ("a record without its end", entry_of_one(4, b"\x00\x18"), left_out("games file: game 0, byte 24: the record ends too early")),

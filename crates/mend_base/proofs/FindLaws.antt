@@ -1,6 +1,5 @@
 -- What was found of a game, where the games file is told.
-use Rattle.std.proofs.Common.{◌≡◌, ◌≤◌, ◌<◌, ◌+◌, ◌*◌, ℕ, Bool, false, List, length, take, is_some, Option, None, Some, Ok, Err, IfSome, IsTrue, refl, sym, ap, ◌∙◌, subst, arith, true≢false}
-use Rattle.std.proofs.lemmas.Bool.{lt-leb}
+use Rattle.std.proofs.Common.{◌≡◌, ◌≤◌, ◌+◌, ℕ, List, length, take, Option, None, Some, Ok, Err, IfSome, IsTrue, refl, sym, ap, ◌∙◌, subst}
 use Rattle.base_files.specs.Extents.{record_in}
 use Rattle.base_files.specs.Told.{Tells, TellsLength, part_told}
 use Rattle.game_codec.specs.Fault.{IsRecordFault}
@@ -10,60 +9,45 @@ use Rattle.game_tree.specs.Date.{keeps_rule}
 use Rattle.game_tree.specs.Game.{GameTree}
 use Rattle.game_tree.specs.declared.head.Head.{Head}
 use Rattle.game_tree.specs.declared.head.Tag.{Tag}
-use Rattle.index_entry.specs.Entry.{IsEntry, entry_read}
+use Rattle.index_entry.specs.Entry.{fault_in}
 use Rattle.index_entry.specs.Index.{entry_bytes}
 use Rattle.index_entry.specs.declared.entry.Entry.{Entry}
+use Rattle.index_entry.specs.declared.fault.EntryFault.{EntryFault}
 use Rattle.name_base.specs.NameLists.{NameLists}
 use Rattle.name_base.specs.PartNames.{PartLists, filled_names}
-use Rattle.name_base.proofs.PartLemmas.{length-filled}
 use Rattle.base_core.specs.Base.{Held}
 use Rattle.base_core.specs.Entries.{Says, extent_of}
-use Rattle.base_core.specs.FirstFault.{derived_fault, entry_checked, id_fault, place_fault, unless}
-use Rattle.base_core.specs.Reading.{IsMended, IsReadSo, IsTaken, kept_entry}
+use Rattle.base_core.specs.FirstFault.{place_fault}
+use Rattle.base_core.specs.Reading.{IsMended, kept_entry}
+use Rattle.base_core.specs.Represents.{Keeps}
 use Rattle.base_core.specs.declared.fault.BaseFault.{BaseFault}
 use Rattle.base_core.specs.declared.fault.BaseFault.TheVariants.{Packed, Place as PlaceFault}
 use Rattle.base_core.specs.declared.fault.IdField.{IdField}
 use Rattle.base_core.specs.declared.fault.PlaceWhat.{PlaceWhat}
-use Rattle.base_core.proofs.CheckLaws.{checked, ends_within, read_is}
-use Rattle.base_core.proofs.ReadLaws.{taken_told}
+use Rattle.base_core.proofs.CheckLaws.{ends_within}
+use Rattle.base_core.proofs.KeptLaws.{settled_kept}
+use Rattle.mend_base.specs.Fields.{known_in, without_faults}
 use Rattle.mend_base.specs.Finding.{Finds, IsFoundIn, KeepsWhole, entry_cost}
+use Rattle.mend_base.specs.Places.{Place, change_by, change_in, held_by, missing_in, place_of}
 use Rattle.mend_base.specs.declared.finding.Find.{Find}
 use Rattle.mend_base.specs.declared.finding.Find.TheVariants as find
-use Rattle.mend_base.specs.Places.{Place, held_by, missing_in, place_of}
-
--- ---- the ids of an entry.
-
--- Each id of an entry has a name, where each one that is missing is `?`.
-pub none-missing : (names : PartLists) (e : Entry) → IsEntry e → id_fault (filled_names names) e ≡ None
-unfolding id_fault
-none-missing names e is =
-    let players : length (filled_names names).players ≡ 1048576 = length-filled 1048576 names.players in
-    let events : length (filled_names names).events ≡ 524288 = length-filled 524288 names.events in
-    let sites : length (filled_names names).sites ≡ 524288 = length-filled 524288 names.sites in
-    let rounds : length (filled_names names).rounds ≡ 262144 = length-filled 262144 names.rounds in
-    rw (
-      lt-leb (length (filled_names names).players) e.white (omega (arith, players, is.white)),
-      lt-leb (length (filled_names names).players) e.black (omega (arith, players, is.black)),
-      lt-leb (length (filled_names names).events) e.event (omega (arith, events, is.event)),
-      lt-leb (length (filled_names names).sites) e.site (omega (arith, sites, is.site)),
-      lt-leb (length (filled_names names).rounds) e.round (omega (arith, rounds, is.round)),
-    ) refl
+use Rattle.mend_base.proofs.FieldLaws.{known-sound}
 
 -- ---- the places.
 
-unread_place : (names : PartLists) (games : List ℕ) (game : ℕ) (bytes : List ℕ) (fault : BaseFault) → entry_checked (filled_names names) (length games) game bytes ≡ Err fault → place_of names games game bytes ≡ Err fault
-unfolding place_of
-unread_place names games game bytes fault checked = rw checked refl
+module _ (names : PartLists) (games : List ℕ) (game : ℕ) (bytes : List ℕ) where
+  pub unplaced_place : (what : PlaceWhat) → place_fault (length games) (known_in bytes) ≡ Some what → place_of names games game bytes ≡ Err (PlaceFault game what)
+  unfolding place_of
+  unplaced_place what is = rw is refl
 
-broken_place : (names : PartLists) (games : List ℕ) (game : ℕ) (bytes : List ℕ) (e : Entry) (what : RecordFault) → entry_checked (filled_names names) (length games) game bytes ≡ Ok e →
-    record_answer (record_in games (extent_of e)) ≡ Err what → place_of names games game bytes ≡ Err (Packed game what)
-unfolding place_of
-broken_place names games game bytes e what checked answer = rw (checked, answer) refl
+  pub broken_place : (what : RecordFault) → place_fault (length games) (known_in bytes) ≡ None → record_answer (record_in games (extent_of (known_in bytes))) ≡ Err what → place_of names games game bytes ≡ Err (Packed game what)
+  unfolding place_of
+  broken_place what is answer = rw (is, answer) refl
 
-pub read-place : (names : PartLists) (games : List ℕ) (game : ℕ) (bytes : List ℕ) (e : Entry) (tags : List Tag) (tree : GameTree) → entry_checked (filled_names names) (length games) game bytes ≡ Ok e →
-    record_answer (record_in games (extent_of e)) ≡ Ok (tags, tree) → place_of names games game bytes ≡ Ok (record { held = held_by (filled_names names) e (tags, tree); missing = missing_in names e })
-unfolding place_of
-read-place names games game bytes e tags tree checked answer = rw (checked, answer) refl
+  pub read-place : (tags : List Tag) (tree : GameTree) → place_fault (length games) (known_in bytes) ≡ None → record_answer (record_in games (extent_of (known_in bytes))) ≡ Ok (tags, tree) →
+      place_of names games game bytes ≡ Ok (record { held = held_by (filled_names names) (known_in bytes) (tags, tree); change = change_in names game bytes })
+  unfolding place_of
+  read-place tags tree is answer = rw (is, answer) refl
 
 -- What an entry says is the game of it and of its record.
 pub held-by : (names : NameLists) (games : List ℕ) (e : Entry) (held : Held) (says : Says names games e held) → held_by names e (says.tags, held.game) ≡ held
@@ -71,64 +55,64 @@ held-by names games e held says =
     let made : Head → ℕ → Held = λ h n. record { head = h; game = held.game; len = n } in
     ap (λ (h : Head). made h e.len) (sym says.head) ∙ ap (λ (n : ℕ). made held.head n) (sym says.len)
 
-taken-so : (bytes : List ℕ) (e kept : Entry) (mended : IsMended bytes e kept) → IsTaken false bytes e kept (is_some (derived_fault e mended.0))
-taken-so bytes e kept mended = record {
-  sig = mended.0;
-  date = mended.1.0;
-  signed = mended.1.1.0;
-  keeps = mended.1.1.1;
-  mends = refl;
-  strictly = λ is. absurd (true≢false (sym is));
-}
+-- ---- a game that is whole.
 
-one-entry : (names : NameLists) (end game : ℕ) (bytes : List ℕ) (e x : Entry) → entry_checked names end game bytes ≡ Ok e → entry_checked names end game bytes ≡ Ok x → x ≡ e
-one-entry names end game bytes e x is other = let same : Ok x ≡ Ok e = sym other ∙ is in cc
+-- The entry that is kept keeps the game that its record says.
+keeps_it : (names : NameLists) (games : List ℕ) (e kept : Entry) (mended : IsMended (record_in games (extent_of e)) e kept) → e.offset + e.len ≤ length games → IsTrue (keeps_rule e.event_date e.date) →
+    Keeps names games kept (held_by names e (mended.1.1.0.tags, mended.1.1.0.tree))
+unfolding kept_entry
+keeps_it names games e kept mended within rule =
+    let signed = mended.1.1.0 in
+    let held : Held = held_by names e (signed.tags, signed.tree) in
+    let K : Entry → Type 0 = λ x. Keeps names games x held in
+    let says : Says names games (kept_entry e mended.0 mended.1.0) held =
+    record { tags = signed.tags; within = within; read = signed.read.answer; head = sym (settled_kept names e mended.0 mended.1.0 signed.tags rule (signed.dated names)); len = refl } in
+    subst K (sym mended.1.1.1) (record { says = says; event_date = signed.dated names; signed = signed.signed })
 
-whole_so : (index : List ℕ) (names : PartLists) (games : List ℕ) (game : ℕ) (e kept : Entry) (missing : Option IdField) (mended : Bool) → entry_checked (filled_names names) (length games) game (entry_bytes index game) ≡ Ok e →
-    missing ≡ missing_in names e → IsReadSo false (filled_names names) games game (entry_bytes index game) kept mended → KeepsWhole index names games game kept missing
-whole_so index names games game e kept missing mended checked first read =
-    let fields = read.read.fields in
-    let same : fields ≡ e = one-entry (filled_names names) (length games) game (entry_bytes index game) e fields checked read.read.checked in
-    let says = read.read.says in
-    let made : Held → Option IdField → Place = λ h m. Ok (record { held = h; missing = m }) in
+whole_so : (index : List ℕ) (names : PartLists) (games : List ℕ) (game : ℕ) (e kept : Entry) (change : Option BaseFault) → e ≡ known_in (entry_bytes index game) → place_fault (length games) e ≡ None →
+    change ≡ change_in names game (entry_bytes index game) → IsMended (record_in games (extent_of e)) e kept → KeepsWhole index names games game kept change
+whole_so index names games game e kept change is fits first mended =
+    let signed = mended.1.1.0 in
+    let bytes = entry_bytes index game in
+    let P : Entry → Type 0 = λ x. place_fault (length games) x ≡ None in
+    let A : Entry → Type 0 = λ x. record_answer (record_in games (extent_of x)) ≡ Ok (signed.tags, signed.tree) in
+    let within = ends_within (length games) e fits in
+    let made : Entry → Option BaseFault → Place = λ x c. Ok (record { held = held_by (filled_names names) x (signed.tags, signed.tree); change = c }) in
     record {
-      held = read.held;
-      place = read-place names games game (entry_bytes index game) fields says.tags read.held.game read.read.checked says.read
-          ∙ (ap (λ (h : Held). made h (missing_in names fields)) (held-by (filled_names names) games fields read.held says)
-          ∙ ap (λ (m : Option IdField). made read.held m) (ap (missing_in names) same ∙ sym first));
-      keeps = read.read.keeps;
+      held = held_by (filled_names names) e (signed.tags, signed.tree);
+      place = read-place names games game bytes signed.tags signed.tree (subst P is fits) (subst A is signed.read.answer)
+          ∙ (ap (λ (x : Entry). made x (change_in names game bytes)) (sym is) ∙ ap (λ (c : Option BaseFault). made e c) (sym first));
+      keeps = keeps_it (filled_names names) games e kept mended within (subst (λ (x : Entry). IsTrue (keeps_rule x.event_date x.date)) (sym is) (known-sound bytes).event_rule);
     }
 
-whole_told : (told : Option (List ℕ)) (index : List ℕ) (names : PartLists) (end game : ℕ) (e kept : Entry) (missing : Option IdField) (mended : Bool) → TellsLength told end →
-    entry_checked (filled_names names) end game (entry_bytes index game) ≡ Ok e → missing ≡ missing_in names e → IfSome told (λ games. IsReadSo false (filled_names names) games game (entry_bytes index game) kept mended) →
-    IfSome told (λ games. KeepsWhole index names games game kept missing)
-whole_told None index names end game e kept missing mended long checked first read = tt
-whole_told (Some games) index names end game e kept missing mended long checked first read =
-    let C : ℕ → Type 0 = λ n. entry_checked (filled_names names) n game (entry_bytes index game) ≡ Ok e in
-    whole_so index names games game e kept missing mended (subst C long checked) first read
+pub whole-place : (told : Option (List ℕ)) (index : List ℕ) (names : PartLists) (end game : ℕ) (read : List ℕ) (e kept : Entry) (change : Option BaseFault) → TellsLength told end → Tells (part_told told e.offset e.len) read →
+    e ≡ known_in (entry_bytes index game) → place_fault end e ≡ None → change ≡ change_in names game (entry_bytes index game) → IsMended read e kept → IfSome told (λ games. KeepsWhole index names games game kept change)
+whole-place None index names end game read e kept change long tells is fits first mended = tt
+whole-place (Some games) index names end game read e kept change long tells is fits first mended =
+    let P : ℕ → Type 0 = λ n. place_fault n e ≡ None in
+    let M : List ℕ → Type 0 = λ bytes. IsMended bytes e kept in
+    whole_so index names games game e kept change is (subst P long fits) first (subst M tells mended)
 
-whole-place : (told : Option (List ℕ)) (index : List ℕ) (names : PartLists) (end game : ℕ) (read : List ℕ) (e kept : Entry) (missing : Option IdField) → IsTrue (keeps_rule e.event_date e.date) →
-    TellsLength told end → Tells (part_told told e.offset e.len) read → entry_checked (filled_names names) end game (entry_bytes index game) ≡ Ok e → IsMended read e kept → missing ≡ missing_in names e →
-    IfSome told (λ games. KeepsWhole index names games game kept missing)
-whole-place told index names end game read e kept missing rule long tells checked mended first =
-    whole_told told index names end game e kept missing (is_some (derived_fault e mended.0)) long checked first
-    (taken_told told false (filled_names names) end game (entry_bytes index game) read e kept (is_some (derived_fault e mended.0)) rule long tells checked (taken-so read e kept mended))
+-- ---- a game that has a fault.
 
-broken-place : (told : Option (List ℕ)) (index : List ℕ) (names : PartLists) (end game : ℕ) (read : List ℕ) (e : Entry) (fault : BaseFault) →
-    TellsLength told end → Tells (part_told told e.offset e.len) read → entry_checked (filled_names names) end game (entry_bytes index game) ≡ Ok e → ((what : RecordFault) × (IsRecordFault read what × (fault ≡ Packed game what))) →
+pub broken-place : (told : Option (List ℕ)) (index : List ℕ) (names : PartLists) (end game : ℕ) (read : List ℕ) (e : Entry) (fault : BaseFault) → TellsLength told end → Tells (part_told told e.offset e.len) read →
+    e ≡ known_in (entry_bytes index game) → place_fault end e ≡ None → ((what : RecordFault) × (IsRecordFault read what × (fault ≡ Packed game what))) →
     IfSome told (λ games. place_of names games game (entry_bytes index game) ≡ Err fault)
-broken-place None index names end game read e fault long tells checked broken = tt
-broken-place (Some games) index names end game read e fault long tells checked broken =
-    let C : ℕ → Type 0 = λ n. entry_checked (filled_names names) n game (entry_bytes index game) ≡ Ok e in
+broken-place None index names end game read e fault long tells is fits broken = tt
+broken-place (Some games) index names end game read e fault long tells is fits broken =
+    let P : ℕ → Type 0 = λ n. place_fault n e ≡ None in
+    let Q : Entry → Type 0 = λ x. place_fault (length games) x ≡ None in
     let A : List ℕ → Type 0 = λ bytes. record_answer bytes ≡ Err broken.0 in
-    broken_place names games game (entry_bytes index game) e broken.0 (subst C long checked) (subst A tells broken.1.0.answer) ∙ ap Err (sym broken.1.1)
+    let B : Entry → Type 0 = λ x. record_answer (record_in games (extent_of x)) ≡ Err broken.0 in
+    broken_place names games game (entry_bytes index game) broken.0 (subst Q is (subst P long fits)) (subst B is (subst A tells broken.1.0.answer)) ∙ ap Err (sym broken.1.1)
 
-pub unread-place : (told : Option (List ℕ)) (index : List ℕ) (names : PartLists) (end game : ℕ) (fault : BaseFault) → TellsLength told end →
-    entry_checked (filled_names names) end game (entry_bytes index game) ≡ Err fault → IfSome told (λ games. place_of names games game (entry_bytes index game) ≡ Err fault)
-unread-place None index names end game fault long fails = tt
-unread-place (Some games) index names end game fault long fails =
-    let C : ℕ → Type 0 = λ n. entry_checked (filled_names names) n game (entry_bytes index game) ≡ Err fault in
-    unread_place names games game (entry_bytes index game) fault (subst C long fails)
+pub unread-place : (told : Option (List ℕ)) (index : List ℕ) (names : PartLists) (end game : ℕ) (e : Entry) (what : PlaceWhat) → TellsLength told end → e ≡ known_in (entry_bytes index game) → Some what ≡ place_fault end e →
+    IfSome told (λ games. place_of names games game (entry_bytes index game) ≡ Err (PlaceFault game what))
+unread-place None index names end game e what long is first = tt
+unread-place (Some games) index names end game e what long is first =
+    let P : ℕ → Type 0 = λ n. place_fault n e ≡ Some what in
+    let Q : Entry → Type 0 = λ x. place_fault (length games) x ≡ Some what in
+    unplaced_place names games game (entry_bytes index game) what (subst Q is (subst P long (sym first)))
 
 -- ---- the record of a mended entry.
 
@@ -138,26 +122,31 @@ mended-place bytes e kept mended = (ap (λ (x : Entry). x.offset) mended.1.1.1, 
 
 -- ---- what the functions answer.
 
-pub checked-at : (names : PartLists) (end game : ℕ) (bytes : List ℕ) (e : Entry) (o : Option PlaceWhat) → Ok e ≡ entry_read bytes → IsEntry e → o ≡ place_fault end e →
-    unless (λ what. PlaceFault game what) o (Ok e) ≡ entry_checked (filled_names names) end game bytes
-unfolding entry_checked
-checked-at names end game bytes e o read is placed = rw (sym read, none-missing names e is, sym placed) refl
+-- For which fault a game is changed, by what its bytes say.
+pub change-so : (names : PartLists) (game : ℕ) (packed bytes : List ℕ) (entry : Entry) (fault : Option EntryFault) (missing : Option IdField) (result : Option BaseFault) → packed ≡ bytes → entry ≡ known_in packed →
+    fault ≡ fault_in packed → missing ≡ missing_in names entry → result ≡ change_by game fault missing → result ≡ change_in names game bytes
+unfolding change_in
+change-so names game packed bytes entry fault missing result there known first none is =
+    let M : Entry → Option BaseFault = λ e. change_by game (fault_in packed) (missing_in names e) in
+    is
+    ∙ (ap (λ (f : Option EntryFault). change_by game f missing) first
+    ∙ (ap (λ (m : Option IdField). change_by game (fault_in packed) m) none
+    ∙ (ap M known ∙ ap (λ (b : List ℕ). change_in names game b) there)))
 
 -- What a game costs.
-pub cost-there : (names : PartLists) (index : List ℕ) (end game : ℕ) (e : Entry) → entry_checked (filled_names names) end game (entry_bytes index game) ≡ Ok e → entry_cost index game ≡ e.len
-cost-there names index end game e is =
-    let k = checked (filled_names names) end game (entry_bytes index game) e is in
-    ap (λ (x : Entry). x.len) (read_is (entry_bytes index game) e k.read)
+pub cost-there : (index : List ℕ) (game : ℕ) (e : Entry) → e ≡ known_in (entry_bytes index game) → e.len ≡ entry_cost index game
+unfolding known_in without_faults
+cost-there index game e is = ap (λ (x : Entry). x.len) is
 
-pub ends-in : (names : PartLists) (end game : ℕ) (bytes : List ℕ) (e : Entry) → entry_checked (filled_names names) end game bytes ≡ Ok e → e.offset + e.len ≤ end
-ends-in names end game bytes e is = ends_within end e (checked (filled_names names) end game bytes e is).placed
+pub ends-in : (end : ℕ) (e : Entry) → None ≡ place_fault end e → e.offset + e.len ≤ end
+ends-in end e is = ends_within end e (sym is)
 
-pub found-so : (told : Option (List ℕ)) (index : List ℕ) (names : PartLists) (end game : ℕ) (buf : List ℕ) (e : Entry) (result : Find) → IsTrue (keeps_rule e.event_date e.date) →
-    TellsLength told end → Tells (part_told told e.offset e.len) (take e.len buf) → entry_checked (filled_names names) end game (entry_bytes index game) ≡ Ok e → IsFoundIn names game e (take e.len buf) result →
+pub found-so : (told : Option (List ℕ)) (index : List ℕ) (names : PartLists) (end game : ℕ) (buf : List ℕ) (e : Entry) (change : Option BaseFault) (result : Find) → TellsLength told end →
+    Tells (part_told told e.offset e.len) (take e.len buf) → e ≡ known_in (entry_bytes index game) → None ≡ place_fault end e → change ≡ change_in names game (entry_bytes index game) → IsFoundIn game e change (take e.len buf) result →
     Finds index names told game buf result
-found-so told index names end game buf e (find.Whole kept missing) rule long tells is found =
+found-so told index names end game buf e change (find.Whole kept other) long tells is fits first found =
     let placed = mended-place (take e.len buf) e kept found.0 in
     let O : ℕ → Type 0 = λ n. Tells (part_told told n e.len) (take e.len buf) in
     let L : ℕ → Type 0 = λ n. Tells (part_told told kept.offset n) (take n buf) in
-    (subst L (sym placed.1) (subst O (sym placed.0) tells), whole-place told index names end game (take e.len buf) e kept missing rule long tells is found.0 found.1)
-found-so told index names end game buf e (find.Broken fault) rule long tells is found = broken-place told index names end game (take e.len buf) e fault long tells is found
+    (subst L (sym placed.1) (subst O (sym placed.0) tells), whole-place told index names end game (take e.len buf) e kept other long tells is (sym fits) (found.1 ∙ first) found.0)
+found-so told index names end game buf e change (find.Broken fault) long tells is fits first found = broken-place told index names end game (take e.len buf) e fault long tells is (sym fits) found

@@ -1,5 +1,6 @@
 pub mod DeviceLaws
 pub mod EntryLaws
+pub mod FieldLaws
 pub mod NoteLaws
 pub mod PlaceLaws
 pub mod FindLaws

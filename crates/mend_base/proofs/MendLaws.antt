@@ -22,7 +22,6 @@ use Rattle.base_core.specs.Entries.{extent_of, head_of}
 use Rattle.base_core.specs.Represents.{Keeps, Kept, Represents}
 use Rattle.base_core.specs.Saved.{OpensAgain}
 use Rattle.base_core.specs.declared.fault.BaseFault.{BaseFault}
-use Rattle.base_core.specs.declared.fault.IdField.{IdField}
 use Rattle.base_core.specs.declared.fault.What.{What}
 use Rattle.base_core.proofs.OnlyLaws.{only-more, placed-long}
 use Rattle.base_core.proofs.TakeLaws.{names-settled}
@@ -30,7 +29,7 @@ use Rattle.mend_base.specs.Entries.{entries_found, head_found}
 use Rattle.mend_base.specs.Finding.{KeepsWhole, entries_cost, entry_cost}
 use Rattle.mend_base.specs.Keeping.{FillsNext, MendsNext, PutsIt, WhyStopped}
 use Rattle.mend_base.specs.Mending.{HasMended, IsMade, IsTooMuch, Mends, WhyNotMended}
-use Rattle.mend_base.specs.Notes.{Began, all_notes, notes_from, notes_of_head, notes_of_missing, notes_of_place, notes_of_rest, notes_with, with_notes}
+use Rattle.mend_base.specs.Notes.{Began, all_notes, notes_from, notes_of_head, notes_of_change, notes_of_place, notes_of_rest, notes_with, with_notes}
 use Rattle.mend_base.specs.Places.{Found, games_of, mended_base, place_of, places_of}
 use Rattle.mend_base.specs.declared.fault.MendError.{MendError}
 use Rattle.mend_base.specs.declared.fault.MendError.TheVariants as error
@@ -78,7 +77,7 @@ has-left-out game index names games told now draft file fault place tells = λ h
 names_kept : (names : NameLists) (games : List ℕ) (kept : Entry) (held : Held) (old : NameLists) → Keeps names games kept held → names_with (head_of names kept []) old ≡ names_with held.head old
 names_kept names games kept held old keeps = sym (names-settled names old kept keeps.says.tags) ∙ ap (λ (h : Head). names_with h old) (sym keeps.says.head)
 
-module _ (game : ℕ) (index : List ℕ) (names : PartLists) (games : List ℕ) (header : IndexHead) (kept : Entry) (missing : Option IdField) (whole : KeepsWhole index names games game kept missing) where
+module _ (game : ℕ) (index : List ℕ) (names : PartLists) (games : List ℕ) (header : IndexHead) (kept : Entry) (change : Option BaseFault) (whole : KeepsWhole index names games game kept change) where
   abbrev so_far : Base
   so_far = mended_base header (games_of (places_of index names games game))
 
@@ -89,7 +88,7 @@ module _ (game : ℕ) (index : List ℕ) (names : PartLists) (games : List ℕ) 
   with_held : with_game whole.held so_far ≡ next
   with_held =
       only-more (games_of (places_of index names games game)) whole.held (record empty_base { header = header })
-      ∙ ap (λ (gs : List Held). mended_base header gs) (sym (games-more index names games game (record { held = whole.held; missing = missing }) whole.place))
+      ∙ ap (λ (gs : List Held). mended_base header gs) (sym (games-more index names games game (record { held = whole.held; change = change }) whole.place))
 
   -- Its names and its end.
   pub next-names : (draft : Kept) → draft.names ≡ so_far.names → names_with (head_of (filled_names names) kept []) draft.names ≡ next.names
@@ -112,53 +111,53 @@ module _ (game : ℕ) (index : List ℕ) (names : PartLists) (games : List ℕ) 
       let done : G (with_game whole.held so_far) = (placed-long games file draft.end kept stands.0 whole.keeps.says.within ∙ sym end, takes whole.held games file so_far whole.keeps stands.0 stands.1) in
       subst (λ (o : Option (List ℕ)). IfSome o (λ f. (length f ≡ after.end) × Represents after f next)) (sym is) (subst G with_held done)
 
-has-kept : (game : ℕ) (index : List ℕ) (names : PartLists) (games : List ℕ) (told now : Option (List Note)) (more : ℕ) (draft after : Kept) (file fresh : Option (List ℕ)) (kept : Entry) (missing : Option IdField) →
-    KeepsWhole index names games game kept missing → Takes (filled_names names) kept draft after → Grows kept.len draft after → after.names ≡ names_with (head_of (filled_names names) kept []) draft.names →
-    fresh ≡ adds file (padded draft.end (record_in games (extent_of kept))) → now ≡ with_notes told (notes_of_missing game missing) → more ≡ (if is_some missing then 1 else 0) →
+has-kept : (game : ℕ) (index : List ℕ) (names : PartLists) (games : List ℕ) (told now : Option (List Note)) (more : ℕ) (draft after : Kept) (file fresh : Option (List ℕ)) (kept : Entry) (change : Option BaseFault) →
+    KeepsWhole index names games game kept change → Takes (filled_names names) kept draft after → Grows kept.len draft after → after.names ≡ names_with (head_of (filled_names names) kept []) draft.names →
+    fresh ≡ adds file (padded draft.end (record_in games (extent_of kept))) → now ≡ with_notes told (notes_of_change game change) → more ≡ (if is_some change then 1 else 0) →
     MendsNext game index names games told now more draft after file fresh
-has-kept game index names games told now more draft after file fresh kept missing whole takes grows names_are added tells one = λ header before changed has.
-    let found : Found = record { held = whole.held; missing = missing } in
+has-kept game index names games told now more draft after file fresh kept change whole takes grows names_are added tells one = λ header before changed has.
+    let found : Found = record { held = whole.held; change = change } in
     record {
       notes = told-more index names games before told now game (Ok found) whole.place has.notes tells;
       came = grows.count ∙ (ap (λ n. n + 1) has.came ∙ (sym (length_push (games_of (places_of index names games game)) whole.held) ∙ ap (λ (gs : List Held). length gs) (sym (games-more index names games game found whole.place))));
-      changed_are = ap (λ n. changed + n) one ∙ (ap (λ n. n + (if is_some missing then 1 else 0)) has.changed_are ∙ sym (changed-more index names games game found whole.place));
-      end = grows.end ∙ next-end game index names games header kept missing whole draft has.end;
-      names_are = names_are ∙ next-names game index names games header kept missing whole draft has.names_are;
-      stands = next-stands game index names games header kept missing whole draft after file fresh takes grows.end added has.stands;
+      changed_are = ap (λ n. changed + n) one ∙ (ap (λ n. n + (if is_some change then 1 else 0)) has.changed_are ∙ sym (changed-more index names games game found whole.place));
+      end = grows.end ∙ next-end game index names games header kept change whole draft has.end;
+      names_are = names_are ∙ next-names game index names games header kept change whole draft has.names_are;
+      stands = next-stands game index names games header kept change whole draft after file fresh takes grows.end added has.stands;
     }
 
 -- The new base would be full with it.
-has-filled : (game : ℕ) (index : List ℕ) (names : PartLists) (games : List ℕ) (told : Option (List Note)) (draft : Kept) (file : Option (List ℕ)) (kept : Entry) (missing : Option IdField) (what : What) → game < entries_found index →
-    KeepsWhole index names games game kept missing → or_file (full_names (names_with (head_of (filled_names names) kept []) draft.names)) (end_after draft.end kept.len) ≡ Some what → FillsNext game index names games told draft file what
-has-filled game index names games told draft file kept missing what below whole full = λ header before changed has.
+has-filled : (game : ℕ) (index : List ℕ) (names : PartLists) (games : List ℕ) (told : Option (List Note)) (draft : Kept) (file : Option (List ℕ)) (kept : Entry) (change : Option BaseFault) (what : What) → game < entries_found index →
+    KeepsWhole index names games game kept change → or_file (full_names (names_with (head_of (filled_names names) kept []) draft.names)) (end_after draft.end kept.len) ≡ Some what → FillsNext game index names games told draft file what
+has-filled game index names games told draft file kept change what below whole full = λ header before changed has.
     let N : NameLists → Type 0 = λ n. or_file (full_names n) (end_after draft.end kept.len) ≡ Some what in
     let E : ℕ → Type 0 = λ n. or_file (full_names (mended_base header (games_of (places_of index names games (game + 1)))).names) n ≡ Some what in
     record {
       header = header;
       count = game + 1;
       few = omega (arith, below);
-      full = subst E (next-end game index names games header kept missing whole draft has.end) (subst N (next-names game index names games header kept missing whole draft has.names_are) full);
+      full = subst E (next-end game index names games header kept change whole draft has.end) (subst N (next-names game index names games header kept change whole draft has.names_are) full);
     }
 
 -- The same, where the games file may be told, and what was added is the record that was read.
-pub kept-told : (old : Option (List ℕ)) (game : ℕ) (index : List ℕ) (names : PartLists) (told now : Option (List Note)) (more : ℕ) (draft after : Kept) (file fresh : Option (List ℕ)) (kept : Entry) (missing : Option IdField) (bytes : List ℕ) →
-    IfSome old (λ games. KeepsWhole index names games game kept missing) → Tells (part_told old kept.offset kept.len) bytes → Takes (filled_names names) kept draft after → Grows kept.len draft after →
-    after.names ≡ names_with (head_of (filled_names names) kept []) draft.names → fresh ≡ adds file (padded draft.end bytes) → now ≡ with_notes told (notes_of_missing game missing) → more ≡ (if is_some missing then 1 else 0) →
+pub kept-told : (old : Option (List ℕ)) (game : ℕ) (index : List ℕ) (names : PartLists) (told now : Option (List Note)) (more : ℕ) (draft after : Kept) (file fresh : Option (List ℕ)) (kept : Entry) (change : Option BaseFault) (bytes : List ℕ) →
+    IfSome old (λ games. KeepsWhole index names games game kept change) → Tells (part_told old kept.offset kept.len) bytes → Takes (filled_names names) kept draft after → Grows kept.len draft after →
+    after.names ≡ names_with (head_of (filled_names names) kept []) draft.names → fresh ≡ adds file (padded draft.end bytes) → now ≡ with_notes told (notes_of_change game change) → more ≡ (if is_some change then 1 else 0) →
     IfSome old (λ games. MendsNext game index names games told now more draft after file fresh)
-kept-told None game index names told now more draft after file fresh kept missing bytes whole read takes grows names_are added tells one = tt
-kept-told (Some games) game index names told now more draft after file fresh kept missing bytes whole read takes grows names_are added tells one =
-    has-kept game index names games told now more draft after file fresh kept missing whole takes grows names_are (added ∙ ap (λ (b : List ℕ). adds file (padded draft.end b)) read) tells one
+kept-told None game index names told now more draft after file fresh kept change bytes whole read takes grows names_are added tells one = tt
+kept-told (Some games) game index names told now more draft after file fresh kept change bytes whole read takes grows names_are added tells one =
+    has-kept game index names games told now more draft after file fresh kept change whole takes grows names_are (added ∙ ap (λ (b : List ℕ). adds file (padded draft.end b)) read) tells one
 
 pub left-out-told : (old : Option (List ℕ)) (game : ℕ) (index : List ℕ) (names : PartLists) (told now : Option (List Note)) (draft : Kept) (file : Option (List ℕ)) (fault : BaseFault) →
     IfSome old (λ games. place_of names games game (entry_bytes index game) ≡ Err fault) → now ≡ with_notes told (notes_of_place game (Err fault)) → IfSome old (λ games. MendsNext game index names games told now 0 draft draft file file)
 left-out-told None game index names told now draft file fault place tells = tt
 left-out-told (Some games) game index names told now draft file fault place tells = has-left-out game index names games told now draft file fault place tells
 
-pub filled-told : (old : Option (List ℕ)) (game : ℕ) (index : List ℕ) (names : PartLists) (told : Option (List Note)) (draft : Kept) (file : Option (List ℕ)) (kept : Entry) (missing : Option IdField) (what : What) → game < entries_found index →
-    IfSome old (λ games. KeepsWhole index names games game kept missing) → or_file (full_names (names_with (head_of (filled_names names) kept []) draft.names)) (end_after draft.end kept.len) ≡ Some what →
+pub filled-told : (old : Option (List ℕ)) (game : ℕ) (index : List ℕ) (names : PartLists) (told : Option (List Note)) (draft : Kept) (file : Option (List ℕ)) (kept : Entry) (change : Option BaseFault) (what : What) → game < entries_found index →
+    IfSome old (λ games. KeepsWhole index names games game kept change) → or_file (full_names (names_with (head_of (filled_names names) kept []) draft.names)) (end_after draft.end kept.len) ≡ Some what →
     IfSome old (λ games. FillsNext game index names games told draft file what)
-filled-told None game index names told draft file kept missing what below whole full = tt
-filled-told (Some games) game index names told draft file kept missing what below whole full = has-filled game index names games told draft file kept missing what below whole full
+filled-told None game index names told draft file kept change what below whole full = tt
+filled-told (Some games) game index names told draft file kept change what below whole full = has-filled game index names games told draft file kept change what below whole full
 
 -- ---- all games.
 

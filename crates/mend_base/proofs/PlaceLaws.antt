@@ -22,14 +22,14 @@ games_same [] fault = refl
 games_same (Ok f ∷ places) fault = ap (λ gs. f.held ∷ gs) (games_same places fault)
 games_same (Err other ∷ places) fault = games_same places fault
 
-changed_push : (places : List Place) (found : Found) → changed_of (places ++ Ok found ∷ []) ≡ changed_of places + (if is_some found.missing then 1 else 0)
-changed_push [] found = add-zero (if is_some found.missing then 1 else 0) ∙ sym (zero-add (if is_some found.missing then 1 else 0))
+changed_push : (places : List Place) (found : Found) → changed_of (places ++ Ok found ∷ []) ≡ changed_of places + (if is_some found.change then 1 else 0)
+changed_push [] found = add-zero (if is_some found.change then 1 else 0) ∙ sym (zero-add (if is_some found.change then 1 else 0))
 changed_push (Ok f ∷ places) found = omega (arith, changed_push places found)
 changed_push (Err fault ∷ places) found = changed_push places found
 
 changed_same : (places : List Place) (fault : BaseFault) → changed_of (places ++ Err fault ∷ []) ≡ changed_of places
 changed_same [] fault = refl
-changed_same (Ok f ∷ places) fault = ap (λ n. (if is_some f.missing then 1 else 0) + n) (changed_same places fault)
+changed_same (Ok f ∷ places) fault = ap (λ n. (if is_some f.change then 1 else 0) + n) (changed_same places fault)
 changed_same (Err other ∷ places) fault = changed_same places fault
 
 notes_push : (game : ℕ) (places : List Place) (place : Place) → notes_from game (places ++ place ∷ []) ≡ notes_from game places ++ notes_of_place (game + length places) place
@@ -59,7 +59,7 @@ module _ (index : List ℕ) (names : PartLists) (games : List ℕ) where
   pub games-more : (n : ℕ) (found : Found) → here n ≡ Ok found → games_of (places_of index names games (n + 1)) ≡ games_of (places_of index names games n) ++ found.held ∷ []
   games-more n found is = ap games_of (next_is n (Ok found) is) ∙ games_push (places_of index names games n) found
 
-  pub changed-more : (n : ℕ) (found : Found) → here n ≡ Ok found → changed_of (places_of index names games (n + 1)) ≡ changed_of (places_of index names games n) + (if is_some found.missing then 1 else 0)
+  pub changed-more : (n : ℕ) (found : Found) → here n ≡ Ok found → changed_of (places_of index names games (n + 1)) ≡ changed_of (places_of index names games n) + (if is_some found.change then 1 else 0)
   changed-more n found is = ap changed_of (next_is n (Ok found) is) ∙ changed_push (places_of index names games n) found
 
   -- One that does not.

@@ -1,9 +1,12 @@
 -- A base without a fault comes over whole.
-use Rattle.std.proofs.Common.{◌≡◌, ◌≤◌, ◌<◌, ◌+◌, ◌-◌, ◌*◌, ℕ, zero, suc, Bool, false, true≢false, if◌then◌else◌, List, [], ◌∷◌, ◌++◌, length, map, take, slice_get, unwrap_or, Option, Some, None, Result, Ok, Err, refl, sym, ap, ap₂, ◌∙◌, inl, inr, arith, add-one, take_all}
+use Rattle.std.proofs.Common.{◌≡◌, ◌≤◌, ◌<◌, ◌+◌, ◌-◌, ◌*◌, ℕ, zero, suc, Bool, false, true≢false, if◌then◌else◌, List, [], ◌∷◌, ◌++◌, length, map, take, slice_get, unwrap_or, Option, Some, None, Result, Ok, Err, refl, sym, ap, ap₂, ◌∙◌, subst, inl, inr, arith, add-one, take_all}
 use Rattle.std.proofs.lemmas.Bool.{eq-eqb, le-ltb, lt-leb}
+use Rattle.base_files.specs.Extents.{record_in}
+use Rattle.game_codec.specs.RecordAnswer.{record_answer}
 use Rattle.game_tree.specs.Settle.{settled}
 use Rattle.game_tree.specs.declared.head.Head.{Head}
 use Rattle.game_tree.specs.declared.head.Tag.{Tag}
+use Rattle.index_entry.specs.Entry.{entry_read}
 use Rattle.index_entry.specs.Index.{entry_bytes, header_read}
 use Rattle.index_entry.specs.declared.entry.Entry.{Entry}
 use Rattle.index_entry.specs.declared.fault.IndexFault.{IndexFault}
@@ -14,23 +17,24 @@ use Rattle.name_base.specs.NameLists.{NameLists}
 use Rattle.name_base.specs.PartNames.{PartLists, all_known, filled, filled_names, names_in_part}
 use Rattle.name_base.proofs.PartLemmas.{AreFew, all-filled, all-met, length-filled, read-whole}
 use Rattle.base_core.specs.Base.{Base, Held}
-use Rattle.base_core.specs.Entries.{HasNames, head_of, name_at}
-use Rattle.base_core.specs.FirstFault.{FirstFault, Passes, entry_checked, id_fault}
+use Rattle.base_core.specs.Entries.{HasNames, extent_of, head_of, name_at}
+use Rattle.base_core.specs.FirstFault.{FirstFault, Passes, id_fault, place_fault}
 use Rattle.base_core.specs.Means.{IsEntryOf, Means}
 use Rattle.base_core.specs.declared.fault.BaseFault.{BaseFault}
 use Rattle.base_core.specs.declared.fault.BaseFault.TheVariants.{Index}
-use Rattle.base_core.specs.declared.fault.IdField.{IdField}
 use Rattle.base_core.proofs.CheckLaws.{checked, has_names}
 use Rattle.base_core.proofs.Lists.{get_some, take_next}
 use Rattle.base_core.proofs.Results.{same_ok}
 use Rattle.base_core.proofs.SomeBase.{FaultOrBase}
 use Rattle.mend_base.specs.Entries.{entries_found}
+use Rattle.mend_base.specs.Fields.{known_in}
 use Rattle.mend_base.specs.Mending.{ComesOver}
 use Rattle.mend_base.specs.Notes.{all_notes, notes_from, notes_of_count, notes_of_fault, notes_of_rest, notes_with}
 use Rattle.mend_base.specs.declared.report.Note.{Note}
 use Rattle.mend_base.specs.declared.report.Note.TheVariants as line
-use Rattle.mend_base.specs.Places.{Found, Place, games_of, held_by, missing_in, place_of, places_of}
+use Rattle.mend_base.specs.Places.{Found, Place, change_in, games_of, held_by, missing_in, place_of, places_of}
 use Rattle.mend_base.proofs.EntryLaws.{found-all, header-few, header-found, header-read}
+use Rattle.mend_base.proofs.FieldLaws.{known-read, no-fault}
 use Rattle.mend_base.proofs.FindLaws.{held-by, read-place}
 use Rattle.mend_base.proofs.PlaceLaws.{games-first, games-more, notes-more}
 
@@ -57,51 +61,38 @@ module _ (names : NameLists) (few : AreFew names) (e : Entry) (has : HasNames na
   unfolding missing_in
   none_missing = rw (all-met names.players e.white has.white, all-met names.players e.black has.black, all-met names.events e.event has.event, all-met names.sites e.site has.site, all-met names.rounds e.round has.round) refl
 
-  ids_filled : id_fault (filled_names (all_known names)) e ≡ None
-  unfolding id_fault
-  ids_filled =
-      let players : length (filled_names (all_known names)).players ≡ 1048576 = length-filled 1048576 (map Some names.players) in
-      let events : length (filled_names (all_known names)).events ≡ 524288 = length-filled 524288 (map Some names.events) in
-      let sites : length (filled_names (all_known names)).sites ≡ 524288 = length-filled 524288 (map Some names.sites) in
-      let rounds : length (filled_names (all_known names)).rounds ≡ 262144 = length-filled 262144 (map Some names.rounds) in
-      rw (
-        lt-leb (length (filled_names (all_known names)).players) e.white (omega (arith, players, has.white, few.players)),
-        lt-leb (length (filled_names (all_known names)).players) e.black (omega (arith, players, has.black, few.players)),
-        lt-leb (length (filled_names (all_known names)).events) e.event (omega (arith, events, has.event, few.events)),
-        lt-leb (length (filled_names (all_known names)).sites) e.site (omega (arith, sites, has.site, few.sites)),
-        lt-leb (length (filled_names (all_known names)).rounds) e.round (omega (arith, rounds, has.round, few.rounds)),
-      ) refl
-
--- An entry that passes does so too where each id has a name.
-checked_filled : (names : NameLists) (few : AreFew names) (end game : ℕ) (bytes : List ℕ) (e : Entry) → HasNames names e → entry_checked names end game bytes ≡ Ok e → entry_checked (filled_names (all_known names)) end game bytes ≡ Ok e
-unfolding entry_checked
-checked_filled names few end game bytes e has is =
-    let k = checked names end game bytes e is in
-    rw (k.read, ids_filled names few e has, k.placed) refl
+-- An entry that is read, each of whose names is there, is changed in nothing.
+no_change : (names : NameLists) (few : AreFew names) (game : ℕ) (bytes : List ℕ) (e : Entry) → HasNames names e → entry_read bytes ≡ Ok e → change_in (all_known names) game bytes ≡ None
+unfolding change_in
+no_change names few game bytes e has is = rw (no-fault bytes e is, known-read bytes e is, none_missing names few e has) refl
 
 -- ---- the places.
 
 -- The place of a game of a base.
 place_whole : (names : NameLists) (games : List ℕ) (game : ℕ) (bytes : List ℕ) (held : Held) → AreFew names → IsEntryOf names games bytes held → Passes false names games game bytes →
-    place_of (all_known names) games game bytes ≡ Ok (record { held = held; missing = None })
+    place_of (all_known names) games game bytes ≡ Ok (record { held = held; change = None })
 place_whole names games game bytes held few is passes =
-    let read = (checked names (length games) game bytes passes.fields passes.checked).read in
-    let fields : passes.fields ≡ is.fields = same_ok _ passes.fields is.fields read is.read in
-    let has = has_names names is.fields is.named in
+    let parts = all_known names in
+    let check = checked names (length games) game bytes passes.fields passes.checked in
+    let e = is.fields in
+    let same : passes.fields ≡ e = same_ok _ passes.fields e check.read is.read in
+    let known : known_in bytes ≡ e = known-read bytes e is.read in
+    let has = has_names names e (subst (λ (x : Entry). id_fault names x ≡ None) same check.named) in
     let tags = is.says.tags in
-    let filled = checked_filled names few (length games) game bytes is.fields has (passes.checked ∙ ap Ok fields) in
-    let made : Head → Held = λ h. record { head = h; game = held.game; len = is.fields.len } in
-    let here : held_by (filled_names (all_known names)) is.fields (tags, held.game) ≡ held =
-    ap (λ (h : Head). made (settled h)) (head_same names few is.fields has tags) ∙ held-by names games is.fields held is.says in
-    let place : Held → Option IdField → Place = λ h m. Ok (record { held = h; missing = m }) in
-    read-place (all_known names) games game bytes is.fields tags held.game filled is.says.read
-    ∙ (ap (λ (h : Held). place h (missing_in (all_known names) is.fields)) here ∙ ap (λ (m : Option IdField). place held m) (none_missing names few is.fields has))
+    let made : Head → Held = λ h. record { head = h; game = held.game; len = e.len } in
+    let here : held_by (filled_names parts) e (tags, held.game) ≡ held =
+    ap (λ (h : Head). made (settled h)) (head_same names few e has tags) ∙ held-by names games e held is.says in
+    let same_as_it : Option BaseFault → Place = λ c. Ok (record { held = held; change = c }) in
+    let place : Entry → Place = λ x. Ok (record { held = held_by (filled_names parts) x (tags, held.game); change = change_in parts game bytes }) in
+    read-place parts games game bytes tags held.game (subst (λ (x : Entry). place_fault (length games) x ≡ None) (same ∙ sym known) check.placed)
+    (subst (λ (x : Entry). record_answer (record_in games (extent_of x)) ≡ Ok (tags, held.game)) (sym known) is.says.read)
+    ∙ (ap place known ∙ (ap (λ (h : Held). Ok (record { held = h; change = change_in parts game bytes })) here ∙ ap same_as_it (no_change names few game bytes e has is.read)))
 
 module _ (index names games : List ℕ) (base : Base) (means : Means index names games base) (passes : (i : ℕ) → i < base.header.games → Passes false base.names games i (entry_bytes index i)) where
   abbrev parts : PartLists
   parts = names_in_part names
 
-  place_at : (i : ℕ) → i < base.header.games → (held : Held) × ((slice_get base.games i ≡ Some held) × (place_of parts games i (entry_bytes index i) ≡ Ok (record { held = held; missing = None })))
+  place_at : (i : ℕ) → i < base.header.games → (held : Held) × ((slice_get base.games i ≡ Some held) × (place_of parts games i (entry_bytes index i) ≡ Ok (record { held = held; change = None })))
   place_at i below =
       let read = read-whole names base.names means.lists in
       let held = get_some base.games i (omega (arith, below, means.held.long)) in
@@ -112,7 +103,7 @@ module _ (index names games : List ℕ) (base : Base) (means : Means index names
   games_whole zero few = refl
   games_whole (suc n) few =
       let here = place_at n (omega (arith, few)) in
-      let found : Found = record { held = here.0; missing = None } in
+      let found : Found = record { held = here.0; change = None } in
       ap (λ m. games_of (places_of index parts games m)) (sym (add-one n))
       ∙ (games-more index parts games n found here.1.1
       ∙ (ap (λ gs. gs ++ here.0 ∷ []) (games_whole n (omega (arith, few)))
@@ -123,7 +114,7 @@ module _ (index names games : List ℕ) (base : Base) (means : Means index names
   notes_whole (suc n) few =
       let here = place_at n (omega (arith, few)) in
       ap (λ m. notes_from 0 (places_of index parts games m)) (sym (add-one n))
-      ∙ (notes-more index parts games n (Ok (record { held = here.0; missing = None })) here.1.1 ∙ ap (λ ns. ns ++ []) (notes_whole n (omega (arith, few))))
+      ∙ (notes-more index parts games n (Ok (record { held = here.0; change = None })) here.1.1 ∙ ap (λ ns. ns ++ []) (notes_whole n (omega (arith, few))))
 
   games_all : games_of (places_of index parts games base.header.games) ≡ base.games
   games_all = games_whole base.header.games (omega arith) ∙ take_all base.header.games base.games (omega (arith, means.held.long))

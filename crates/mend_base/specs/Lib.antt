@@ -1,5 +1,6 @@
 pub mod Entries
 pub mod Errors
+pub mod Fields
 pub mod Finding
 pub mod Mending
 pub mod Notes

@@ -5,8 +5,8 @@ use Rattle.index_entry.specs.declared.fault.IndexFault.{IndexFault}
 use Rattle.index_entry.specs.declared.fault.IndexFault.TheVariants.{Length}
 use Rattle.index_entry.specs.declared.index.IndexHead.{IndexHead}
 use Rattle.name_base.specs.PartNames.{PartLists}
-use Rattle.base_core.specs.declared.fault.BaseFault.TheVariants.{Id, Index}
-use Rattle.base_core.specs.declared.fault.IdField.{IdField}
+use Rattle.base_core.specs.declared.fault.BaseFault.{BaseFault}
+use Rattle.base_core.specs.declared.fault.BaseFault.TheVariants.{Index}
 use Rattle.mend_base.specs.Entries.{entries_found, head_found}
 use Rattle.mend_base.specs.Places.{Place, places_of}
 use Rattle.mend_base.specs.declared.report.Note.{Note}
@@ -23,13 +23,13 @@ notes_of_count counted found = if nat_eq counted found then [] else line.Counted
 abbrev pub notes_of_head : List ℕ → IndexHead → List Note
 notes_of_head index header = notes_of_fault (header_read index) ++ notes_of_count header.games (entries_found index)
 
--- Of a game: why it is left out, or which name is the first that is missing.
-abbrev pub notes_of_missing : ℕ → Option IdField → List Note
-notes_of_missing game None = []
-notes_of_missing game (Some field) = line.Changed game (Id game field) ∷ []
+-- Of a game: why it is left out, or the first fault for which it is changed.
+abbrev pub notes_of_change : ℕ → Option BaseFault → List Note
+notes_of_change game None = []
+notes_of_change game (Some fault) = line.Changed game fault ∷ []
 
 abbrev pub notes_of_place : ℕ → Place → List Note
-notes_of_place game (Ok found) = notes_of_missing game found.missing
+notes_of_place game (Ok found) = notes_of_change game found.change
 notes_of_place game (Err fault) = line.LeftOut game fault ∷ []
 
 -- Of all games from this number on.

@@ -1,13 +1,16 @@
 -- What is whole of three files that may be faulty: one place for each entry, with the game or its first fault (this project's own, over Scid's
--- format si4). A name that is missing is no fault that a game is left out for: it has `?` in its place.
+-- format si4). No game is left out for a field that stands for nothing, which is as if it was not given, nor for a name that is missing, which has
+-- `?` in its place.
 use Rattle.std.specs.Prelude.{◌+◌, ℕ, zero, suc, not, if◌then◌else◌, List, [], ◌∷◌, ◌++◌, length, Option, None, Some, is_some, Result, Ok, Err}
 use Rattle.base_files.specs.Extents.{record_in}
 use Rattle.game_codec.specs.RecordAnswer.{record_answer}
 use Rattle.game_tree.specs.Game.{GameTree}
 use Rattle.game_tree.specs.Settle.{settled}
 use Rattle.game_tree.specs.declared.head.Tag.{Tag}
+use Rattle.index_entry.specs.Entry.{fault_in}
 use Rattle.index_entry.specs.Index.{entry_bytes}
 use Rattle.index_entry.specs.declared.entry.Entry.{Entry}
+use Rattle.index_entry.specs.declared.fault.EntryFault.{EntryFault}
 use Rattle.index_entry.specs.declared.index.IndexHead.{IndexHead}
 use Rattle.name_base.specs.NameLists.{NameLists}
 use Rattle.name_base.specs.PartNames.{PartLists, filled_names, name_met}
@@ -15,16 +18,17 @@ use Rattle.name_base.specs.Reading.{◌>>=◌}
 use Rattle.base_core.specs.Base.{Base, Held, empty_base}
 use Rattle.base_core.specs.Compacted.{only}
 use Rattle.base_core.specs.Entries.{extent_of, head_of}
-use Rattle.base_core.specs.FirstFault.{blamed, entry_checked}
+use Rattle.base_core.specs.FirstFault.{blamed, place_fault, unless}
 use Rattle.base_core.specs.declared.fault.BaseFault.{BaseFault}
-use Rattle.base_core.specs.declared.fault.BaseFault.TheVariants.{Packed}
+use Rattle.base_core.specs.declared.fault.BaseFault.TheVariants.{EntryField, Id, Packed, Place as PlaceFault}
 use Rattle.base_core.specs.declared.fault.IdField.{IdField}
 use Rattle.base_core.specs.declared.fault.IdField.TheVariants as id
+use Rattle.mend_base.specs.Fields.{known_in}
 
--- A game that comes over, and the first of its names that is missing.
+-- A game that comes over, and the first fault for which it is changed.
 pub record Found : Type 0 where
   pub held : Held
-  pub missing : Option IdField
+  pub change : Option BaseFault
 
 -- The place of a game in the list: the game, or its first fault.
 abbrev pub Place : Type 0
@@ -44,13 +48,26 @@ missing_in names e =
 abbrev pub held_by : NameLists → Entry → List Tag × GameTree → Held
 held_by names e read = record { head = settled (head_of names e read.0); game = read.1; len = e.len }
 
--- The place of a game with this entry: the first fault of its fields, of the place of its record, of its record; or the game, with `?` for each
--- name that is missing.
+-- The first fault for which a game is changed: of a field of its entry, or else an id that no name has.
+abbrev pub change_by : ℕ → Option EntryFault → Option IdField → Option BaseFault
+change_by game (Some what) missing = Some (EntryField game what)
+change_by game None (Some field) = Some (Id game field)
+change_by game None None = None
+
+unfoldable pub change_in : PartLists → ℕ → List ℕ → Option BaseFault
+change_in names game bytes = change_by game (fault_in bytes) (missing_in names (known_in bytes))
+
+-- An entry whose record may stand where it says.
+abbrev pub placed : ℕ → ℕ → Entry → Result Entry BaseFault
+placed end game e = unless (λ what. PlaceFault game what) (place_fault end e) (Ok e)
+
+-- The place of a game with this entry: the first fault of the place of its record, or of its record; or the game, without the fields that stand for
+-- nothing, and with `?` for each name that is missing.
 unfoldable pub place_of : PartLists → List ℕ → ℕ → List ℕ → Place
 place_of names games game bytes = do
-  e ← entry_checked (filled_names names) (length games) game bytes
+  e ← placed (length games) game (known_in bytes)
   read ← blamed (λ what. Packed game what) (record_answer (record_in games (extent_of e)))
-  Ok (record { held = held_by (filled_names names) e read; missing = missing_in names e })
+  Ok (record { held = held_by (filled_names names) e read; change = change_in names game bytes })
 
 -- The places of so many games, the first ones.
 abbrev pub places_of : List ℕ → PartLists → List ℕ → ℕ → List Place
@@ -65,10 +82,10 @@ games_of [] = []
 games_of (Ok found ∷ places) = found.held ∷ games_of places
 games_of (Err fault ∷ places) = games_of places
 
--- How many of them are changed: those of which a name is missing.
+-- How many of them are changed.
 abbrev pub changed_of : List Place → ℕ
 changed_of [] = 0
-changed_of (Ok found ∷ places) = (if is_some found.missing then 1 else 0) + changed_of places
+changed_of (Ok found ∷ places) = (if is_some found.change then 1 else 0) + changed_of places
 changed_of (Err fault ∷ places) = changed_of places
 
 -- The new base: these games with their names, their records placed from the beginning of its games file.

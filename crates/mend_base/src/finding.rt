@@ -2,16 +2,16 @@
 ghost use Rattle.std.specs.Prelude.{◌≡◌, ◌≤◌, ◌<◌, ◌+◌, ◌*◌, ◌^◌, length, IfOk, OnErr, IfSome};
 ghost use Rattle.base_files.specs.Counters.{Rose};
 ghost use Rattle.base_files.specs.Told.{Tells, TellsLength, part_told};
-ghost use Rattle.index_entry.specs.Entry.{IsEntry, entry_in};
+ghost use Rattle.index_entry.specs.Entry.{IsEntry};
 ghost use Rattle.index_entry.specs.Index.{entry_bytes};
-ghost use Rattle.name_base.specs.PartNames.{filled_names};
-ghost use Rattle.base_core.specs.FirstFault.{entry_checked};
+ghost use Rattle.mend_base.specs.Fields.{known_in};
 ghost use Rattle.mend_base.specs.Finding.{Finds, HasEntry, IsFoundIn, IsKeepable, entry_cost};
-ghost use Rattle.mend_base.specs.Places.{missing_in};
+ghost use Rattle.mend_base.specs.Places.{change_by, change_in, missing_in};
 
+use crate::fields::said_by;
 use base_core::{BaseFault, IdField, mended_entry, misplaced};
 use base_files::{Failed, Files};
-use index_entry::{Entry, entry_of, unpack};
+use index_entry::{Entry, EntryFault, entry_of};
 use name_base::{NameKind, PartNames};
 
 /// What was read of the old base before its records: the bytes of its index, its names as far as they go, and the end of its games file.
@@ -25,9 +25,9 @@ pub(crate) struct Source<'a> {
 /// What was found of a game.
 #[derive(Clone, Copy, Drop)]
 pub(crate) enum Find {
-    /// It is whole. Its entry has the derived fields of its record, which stands in the front of the buffer; and the first of its names
-    /// that is missing.
-    Whole(Entry, Option<IdField>),
+    /// It is whole. Its entry has the derived fields of its record, which stands in the front of the buffer; and the first fault for which
+    /// the game is changed.
+    Whole(Entry, Option<BaseFault>),
     /// It has this first fault.
     Broken(BaseFault),
 }
@@ -50,45 +50,51 @@ pub(crate) fn find_game<F: Files>(
     ensures counts { F.faults old.old ≤ F.faults old.new }
     ensures cause { OnErr result (Rose (F.faults old.old) (F.faults old.new)) }
 {
-    let entry = match placed_entry(source, game) {
-        Ok(entry) => entry,
-        Err(fault) => return Ok(Find::Broken(fault)),
-    };
+    let (entry, change) = entry_of_game(source, game);
+    if let Some(what) = misplaced(&entry, source.end) {
+        return Ok(Find::Broken(BaseFault::Place { game, what }));
+    }
     if old
         .read_games(u64::from(entry.offset), entry.len, buf)
         .is_err()
     {
         return Err(Failed);
     }
-    Ok(found_in(source, game, &entry, &buf[..entry.len as usize]))
+    Ok(found_in(game, &entry, change, &buf[..entry.len as usize]))
 }
 
-// What the entry of a game says, or its first fault before its record is read.
-#[tactic(auto, unfolding(base_core::specs::FirstFault::entry_checked))]
-fn placed_entry(source: &Source<'_>, game: u32) -> Result<Entry, BaseFault>
+// What the entry of a game says without what stands for nothing, and the first fault for which the game is changed.
+fn entry_of_game(source: &Source<'_>, game: u32) -> (Entry, Option<BaseFault>)
     requires there { HasEntry source.now.index.now game }
-    ensures exact { result ≡ entry_checked (filled_names source.now.names.now) source.now.end game (entry_bytes source.now.index.now game) }
-    ensures fields { IfOk result IsEntry }
+    ensures known { result.0 ≡ known_in (entry_bytes source.now.index.now game) }
+    ensures change { result.1 ≡ change_in source.now.names.now game (entry_bytes source.now.index.now game) }
+    ensures fields { IsEntry result.0 }
 {
-    let entry = match unpack(&entry_of(source.index, game)) {
-        Ok(entry) => entry,
-        Err(what) => return Err(BaseFault::EntryField { game, what }),
-    };
-    if let Some(what) = misplaced(&entry, source.end) {
-        return Err(BaseFault::Place { game, what });
+    let said = said_by(&entry_of(source.index, game));
+    let missing = missing_in(source.names, &said.entry);
+    (said.entry, change_by(game, said.fault, missing))
+}
+
+// The first fault for which a game is changed.
+fn change_by(game: u32, fault: Option<EntryFault>, missing: Option<IdField>) -> Option<BaseFault>
+    ensures change { result ≡ change_by game fault missing }
+{
+    if let Some(what) = fault {
+        return Some(BaseFault::EntryField { game, what });
     }
-    Ok(entry)
+    let field = missing?;
+    Some(BaseFault::Id { game, field })
 }
 
 // What the bytes of the record of a game say.
-fn found_in(source: &Source<'_>, game: u32, entry: &Entry, bytes: &[u8]) -> Find
+fn found_in(game: u32, entry: &Entry, change: Option<BaseFault>, bytes: &[u8]) -> Find
     requires fields { IsEntry entry.now }
     requires few { length bytes.now < 2 ^ 32 }
-    ensures found { IsFoundIn source.now.names.now game entry.now bytes.now result }
+    ensures found { IsFoundIn game entry.now change bytes.now result }
     ensures keepable { IsKeepable result }
 {
     match mended_entry(entry, bytes) {
-        Ok(kept) => Find::Whole(kept, missing_in(source.names, entry)),
+        Ok(kept) => Find::Whole(kept, change),
         Err(fault) => Find::Broken(BaseFault::Packed { game, fault }),
     }
 }

@@ -13,13 +13,13 @@ ghost use Rattle.mend_base.specs.Entries.{entries_found};
 ghost use Rattle.mend_base.specs.Finding.{IsTakeable, entry_cost};
 ghost use Rattle.mend_base.specs.Keeping.{FillsNext, IsKeeping, MendsNext, WhyStopped};
 ghost use Rattle.mend_base.specs.Mending.{HasRisen};
-ghost use Rattle.mend_base.specs.Notes.{notes_of_missing, with_notes};
+ghost use Rattle.mend_base.specs.Notes.{notes_of_change, with_notes};
 
 use crate::devices::{append, tell};
 use crate::fault::{MendError, not_taken_error};
 use crate::finding::{Find, Source, find_game};
 use crate::report::{Note, Report};
-use base_core::{BaseFault, Draft, IdField};
+use base_core::{BaseFault, Draft};
 use base_files::Files;
 use index_entry::Entry;
 use name_base::PartNames;
@@ -60,12 +60,12 @@ pub(crate) fn mend_game<F: Files, N: Files, R: Report>(
         (record { old = F.faults old.new; new = N.faults new.new; report = R.faults report.new })) }
 {
     match find_game(source, game, old, buf) {
-        Ok(Find::Whole(kept, missing)) => {
+        Ok(Find::Whole(kept, change)) => {
             let bytes = &buf[..kept.len as usize];
             if let Err(error) = keep_game(alloc, source.names, &kept, bytes, draft, new) {
                 return Err(error);
             }
-            tell_missing(report, game, missing)
+            tell_change(report, game, change)
         }
         Ok(Find::Broken(fault)) => {
             if let Err(error) = tell(report, &Note::LeftOut { game, fault }) {
@@ -106,26 +106,22 @@ fn keep_game<N: Files>(
     append(new, pad, bytes)
 }
 
-// Tells the first name of a game that is missing, if there is one, and gives how many games that changes.
-fn tell_missing<R: Report>(
+// Tells the first fault for which a game is changed, if there is one, and gives how many games that changes.
+fn tell_change<R: Report>(
     report: &mut R,
     game: u32,
-    missing: Option<IdField>,
+    change: Option<BaseFault>,
 ) -> Result<u32, MendError>
-    ensures told { OnOk result (R.told report.new ≡ with_notes (R.told report.old) (notes_of_missing game missing)) }
-    ensures changed { IfOk result (λ changed. changed ≡ (if is_some missing then 1 else 0)) }
+    ensures told { OnOk result (R.told report.new ≡ with_notes (R.told report.old) (notes_of_change game change)) }
+    ensures changed { IfOk result (λ changed. changed ≡ (if is_some change then 1 else 0)) }
     ensures not_told { OnErr result (R.told report.new ≡ R.told report.old) }
     ensures counts { R.faults report.old ≤ R.faults report.new }
     ensures cause { IfErr result (IsReport (R.faults report.old) (R.faults report.new)) }
 {
-    let Some(field) = missing else {
+    let Some(fault) = change else {
         return Ok(0);
     };
-    let note = Note::Changed {
-        game,
-        fault: BaseFault::Id { game, field },
-    };
-    if let Err(error) = tell(report, &note) {
+    if let Err(error) = tell(report, &Note::Changed { game, fault }) {
         return Err(error);
     }
     Ok(1)

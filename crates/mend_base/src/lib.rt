@@ -3,6 +3,7 @@
 
 mod devices;
 mod fault;
+mod fields;
 mod finding;
 mod heading;
 mod keeping;

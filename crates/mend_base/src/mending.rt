@@ -33,9 +33,9 @@ pub struct Mended {
     pub of: u32,
 }
 
-/// Makes new files of every game of the old ones whose entry and record are whole, in order, with its names as far as the names file goes
-/// and `?` for each that is missing, and tells of each game that is left out or changed. The games are those that have an entry, whatever
-/// the index counts. Each record is read once, into `buf`.
+/// Makes new files of every game of the old ones whose record is whole, in order, without those fields of its entry that stand for nothing,
+/// with its names as far as the names file goes and `?` for each that is missing, and tells of each game that is left out or changed. The
+/// games are those that have an entry, whatever the index counts. Each record is read once, into `buf`.
 ///
 /// # Errors
 ///

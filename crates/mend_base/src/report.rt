@@ -24,7 +24,7 @@ pub enum Note {
         game: u32,
         fault: BaseFault,
     },
-    /// This game comes over with `?` for a name. This is the first one that is missing.
+    /// This game comes over without a field that stands for nothing, or with `?` for a name. This is the first fault.
     Changed {
         game: u32,
         fault: BaseFault,

@@ -13,14 +13,15 @@ Makes the Scid base NEW.si4, NEW.sn4, NEW.sg4 of every game of the base OLD
 that is whole, in order. OLD is read, and nothing of it is changed. NEW is
 refused where one of its files is there.
 
-A game is whole where its entry in the index and its record have no fault. All
-entries of the index are looked at, whatever its header counts. A game of which
-a name is missing comes over with ? in its place. What becomes of the others
-stands on standard output, a line a game, with its first fault:
+A game is whole where its record has no fault. All entries of the index are
+looked at, whatever its header counts. A game comes over with ? for a name that
+is missing, and without a result, an ECO code, a date or a rating that stands
+for nothing. What becomes of the others stands on standard output, a line a
+game, with its first fault:
 
   left out G: FAULT        the game G does not come over
   left out G to H: FAULT   nor do these, of which the index has no entries
-  changed G: FAULT         the game G comes over with ? for a name
+  changed G: FAULT         the game G comes over without this
   counted C, found F       the header counts C games, and there are F entries
   index file: FAULT; its entries are tried
 
