@@ -7,6 +7,7 @@ The bases are put together by make_bases.py, byte by byte and by no code of the 
 change of a base, the lines that scid_mend writes, its status, and the lines of `list` over the new base. A row passes where these are so, the
 old files are as they were, and scid_shell opens the new base with `--strict` and mends nothing.
 """
+import fcntl
 import shutil
 import subprocess
 import sys
@@ -287,6 +288,53 @@ def a_compaction_that_was_broken_off(folder):
     assert run(folder, "old", "new")[0] == 0
 
 
+def absent_files(folder):
+    """A names file or a games file that is not there is as one of no bytes, and that is told. An index is wanted."""
+    for ending, told, (lines, last, status, listed) in [
+        ("sn4", "names file: not there; no name is known", mended(ALL_UNNAMED, 4, 4, NO_NAMES, changed=4)),
+        ("sg4", "games file: not there; no record is known", mended(PAST, 0, 4, [])),
+    ]:
+        write(folder, "old", MANY)
+        (folder / f"old.{ending}").unlink()
+        for new in ENDINGS:
+            (folder / f"new.{new}").unlink(missing_ok=True)
+        before = contents(folder)
+        got = run(folder, "old", "new")
+        assert got == (status, "".join(line + "\n" for line in [told, *lines, last]), ""), got
+        after = contents(folder)
+        assert {name: after[name] for name in before} == before and set(after) - set(before) == {f"new.{new}" for new in ENDINGS}, sorted(after)
+        code, text, errors = opened(folder, "new")
+        assert (code, errors, text[1: len(listed) + 1]) == (0, "", listed), (code, errors, text)
+
+
+def left_over_files(folder):
+    """What a run left of NEW that was broken off is taken away by the next one, and stays where a run at work holds the lock, or where a file has bytes."""
+    write(folder, "old", MANY)
+    left = {"new.si4": b"", "new.sn4": b"", "new.sg4": b"", "new.sg4.new": b"begun"}
+    for name, content in left.items():
+        (folder / name).write_bytes(content)
+    before = contents(folder)
+    with open(folder / "new.sg4", "rb") as games:
+        fcntl.flock(games, fcntl.LOCK_EX)
+        status, text, errors = run(folder, "old", "new")
+    assert (status, text) == (FILES_FAULT, "") and "new.sg4: another run" in errors and contents(folder) == before, (status, text, errors)
+    status, text, errors = run(folder, "old", "new")
+    assert (status, text, errors) == (0, "mended 4 of 4 games, 0 changed\n", ""), (status, text, errors)
+    assert set(contents(folder)) == {f"{name}.{ending}" for name in ("old", "new") for ending in ENDINGS}
+    assert opened(folder, "new")[0] == 0
+    # A new base that is whole is in the way.
+    before = contents(folder)
+    assert run(folder, "old", "new")[0] == FILES_FAULT and contents(folder) == before
+    # So is one file with bytes, and two empty files alone.
+    for name, content in left.items():
+        (folder / name).write_bytes(content)
+    (folder / "new.sg4.new").unlink()
+    for change in (lambda: (folder / "new.sn4").write_bytes(b"mine"), lambda: (folder / "new.sn4").unlink()):
+        change()
+        before = contents(folder)
+        assert run(folder, "old", "new")[0] == FILES_FAULT and contents(folder) == before
+
+
 def a_full_output(folder):
     """Where the lines can't be written no new base is left, unless it was whole before."""
     write(folder, "old", MANY)
@@ -304,7 +352,7 @@ def main():
             except AssertionError as wrong:
                 raise AssertionError(title) from wrong
     print(f"{len(WAYS)} ways of spoiling a base, and {len(ROWS)} bases beside: ok")
-    for show in (the_games_are_the_same, refusals, a_compaction_that_was_broken_off, a_full_output):
+    for show in (the_games_are_the_same, refusals, a_compaction_that_was_broken_off, absent_files, left_over_files, a_full_output):
         with tempfile.TemporaryDirectory() as folder:
             show(Path(folder))
         print(f"{show.__name__}: ok")

@@ -4,13 +4,17 @@
 ghost use Rattle.std.specs.Prelude.{◌≡◌, MatchResult};
 ghost use Rattle.scid_mend.specs.declared.status.Status.TheVariants as done;
 
+mod absent;
 mod back;
+mod left_over;
 mod messages;
 mod printer;
 mod status;
 
+use absent::{Absent, PartFiles};
 use back::put_back;
 use base_files::Files;
+use left_over::take_away_left_over;
 use mend_base::mend;
 use messages::{HELP, VERSION, message};
 use printer::Printer;
@@ -67,15 +71,39 @@ fn printed(outcome: io::Result<()>) -> Status
     }
 }
 
-/// Makes the files of the new base, mends, and takes them away again where that fails.
+/// Opens the old base, and mends it. Where its names or its games are not there, they are as files of no bytes, and that is said.
 fn run(rt: &HostRuntime, old: &str, new: &str) -> Status {
+    let absent = match Absent::of_base(rt, old) {
+        Ok(absent) => absent,
+        Err(status) => return status,
+    };
     let line = ProgressLine::of_mending(rt);
-    let mut old_files = Watched::new(DiskFiles::of_faulty_base(rt.alloc(), rt), &line);
+    if absent.is_any() {
+        let files = PartFiles::new(rt, absent);
+        run_over(rt, Watched::new(files, &line), old, new, absent, &line)
+    } else {
+        let files = DiskFiles::of_faulty_base(rt.alloc(), rt);
+        run_over(rt, Watched::new(files, &line), old, new, absent, &line)
+    }
+}
+
+/// Makes the files of the new base, mends, and takes them away again where that fails.
+fn run_over<F: Files + Drop>(
+    rt: &HostRuntime,
+    mut old_files: F,
+    old: &str,
+    new: &str,
+    absent: Absent,
+    line: &ProgressLine<'_>,
+) -> Status {
     if let Err(error) = old_files.choose(old, false) {
         return Status::of_files(error);
     }
-    let mut new_files = Watched::new(DiskFiles::of_new_base(rt.alloc(), rt), &line);
-    let outcome = mend_files(rt, &mut old_files, &mut new_files, new, &line);
+    if let Err(status) = take_away_left_over(rt, old, new) {
+        return status;
+    }
+    let mut new_files = Watched::new(DiskFiles::of_new_base(rt.alloc(), rt), line);
+    let outcome = mend_files(rt, &mut old_files, &mut new_files, new, absent, line);
     line.clear();
     let mut new_files = new_files.into_device();
     match outcome {
@@ -96,9 +124,14 @@ fn mend_files<F: Files, N: Files>(
     old: &mut F,
     new: &mut N,
     name: &str,
+    absent: Absent,
     line: &ProgressLine<'_>,
 ) -> Result<Status, Status> {
     if let Err(error) = new.choose(name, false) {
+        return Err(Status::of_files(error));
+    }
+    // From here on a lock says that a run is at work on these files.
+    if let Err(error) = new.begin_new() {
         return Err(Status::of_files(error));
     }
     let Ok(mut buf) = vec![in rt.alloc(); 0u8; BLOCK_LEN] else {
@@ -108,6 +141,9 @@ fn mend_files<F: Files, N: Files>(
         return Err(Status::Memory);
     };
     let mut printer = Printer::new(writer, line);
+    if printer.tell_absent(absent).is_err() {
+        return Err(Status::WriteFault);
+    }
     match mend(rt.alloc(), old, new, &mut printer, buf.as_mut_slice()) {
         Ok(mended) => Ok(Status::of_mended(mended, printer.end(mended))),
         Err(error) => {

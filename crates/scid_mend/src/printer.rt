@@ -3,6 +3,7 @@ ghost use Rattle.std.specs.Prelude.{◌≡◌, ◌≤◌, None, [], IfErr, OnErr
 ghost use Rattle.base_files.specs.Causes.{HasCause};
 ghost use Rattle.mend_base.specs.Notes.{with_note, with_notes};
 
+use crate::absent::Absent;
 use base_files::{DeviceError, FaultCount};
 use mend_base::{Mended, Note, Report};
 use std::io;
@@ -34,6 +35,17 @@ impl<'p, W: Write> Printer<'p, W> {
             line,
             faults: FaultCount::new(),
         }
+    }
+
+    /// Writes a line for each file of the old base that is not there.
+    pub fn tell_absent(&mut self, absent: Absent) -> io::Result<()> {
+        if absent.names {
+            writeln!(self.writer, "names file: not there; no name is known")?;
+        }
+        if absent.games {
+            writeln!(self.writer, "games file: not there; no record is known")?;
+        }
+        Ok(())
     }
 
     /// Writes the last line, and hands on what the writer holds back.
