@@ -8,6 +8,7 @@ change of a base, the lines that scid_mend writes, its status, and the lines of 
 old files are as they were, and scid_shell opens the new base with `--strict` and mends nothing.
 """
 import fcntl
+import os
 import shutil
 import subprocess
 import sys
@@ -305,6 +306,16 @@ def absent_files(folder):
         assert {name: after[name] for name in before} == before and set(after) - set(before) == {f"new.{new}" for new in ENDINGS}, sorted(after)
         code, text, errors = opened(folder, "new")
         assert (code, errors, text[1: len(listed) + 1]) == (0, "", listed), (code, errors, text)
+    for absent, special in (("sn4", "sg4"), ("sg4", "sn4")):
+        write(folder, "old", MANY)
+        (folder / f"old.{absent}").unlink()
+        (folder / f"old.{special}").unlink()
+        os.mkfifo(folder / f"old.{special}")
+        for new in ENDINGS:
+            (folder / f"new.{new}").unlink(missing_ok=True)
+        status, text, errors = run(folder, "old", "new")
+        assert status == FILES_FAULT and "it is a folder, a device, a pipe or a socket" in errors, (status, text, errors)
+        (folder / f"old.{special}").unlink()
 
 
 def left_over_files(folder):
