@@ -121,10 +121,10 @@ def calls_within(calls, first, last):
         counts[name] = counts.get(name, 0) + 1
         if within:
             found.append((name, counts[name]))
-        if f'write(1, "{first}' in line:
-            within = True
-        if f'write(1, "{last}' in line:
-            break
+        if name == "write" and 'write(1, "' in line:
+            within = within or first in line
+            if last in line:
+                break
     return found
 
 
