@@ -279,17 +279,20 @@ fn games_in(index: &[u8]) -> u32 {
 // The bytes that the records of all games in an index take, each counted for itself.
 fn records_in(index: &[u8]) -> u64 {
     let mut records: u64 = 0;
-    let mut entries = index.get(HEADER..).unwrap_or(&[]);
-    while let Some((entry, behind)) = entries.split_first_chunk::<ENTRY>() {
+    for entry in index.get(HEADER..).unwrap_or(&[]).chunks_exact(ENTRY) {
         records = records.saturating_add(record_len(entry));
-        entries = behind;
     }
     records
 }
 
 // The length of a game's record, of which an entry has 17 bits: the 16 low ones behind the record's place, and one in the byte behind them.
-fn record_len(entry: &[u8; ENTRY]) -> u64 {
-    u64::from(u16::from_be_bytes([entry[4], entry[5]])) + (u64::from(entry[6] >> 7) << 16)
+fn record_len(entry: &[u8]) -> u64 {
+    match entry {
+        [_, _, _, _, high, low, more, ..] => {
+            u64::from(u16::from_be_bytes([*high, *low])) + (u64::from(*more >> 7) << 16)
+        }
+        _ => 0,
+    }
 }
 
 impl Progress {
