@@ -160,20 +160,20 @@ impl<'r> ProgressLine<'r> {
         });
     }
 
-    /// A new games file is begun. Where it becomes more than twice the old one, since games share records, that is said.
+    /// A new games file is begun. Where games share records, and a compaction makes it more than twice the old one, that is said.
     pub fn begun(&self) {
         let before = self.progress.get();
-        if before.records / 2 > before.end {
+        let work = match before.work {
+            Work::Mending => Work::Mending,
+            _ => Work::Compacting,
+        };
+        if work == Work::Compacting && before.records / 2 > before.end {
             self.clear();
             let _ = eprintln!(self.rt;
                 "the games share records: the new games file takes up to {} bytes, and the old one has {}",
                 before.records, before.end
             );
         }
-        let work = match before.work {
-            Work::Mending => Work::Mending,
-            _ => Work::Compacting,
-        };
         self.tell(Progress {
             work,
             copied: 0,
