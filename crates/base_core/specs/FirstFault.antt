@@ -2,6 +2,7 @@
 use Rattle.std.specs.Prelude.{◌≡◌, ◌<◌, ◌+◌, ◌%◌, ◌⊎◌, ℕ, Bool, not, nat_eq, nat_le, nat_lt, if◌then◌else◌, IsTrue, List, length, bytes_eq, Option, Some, None, Result, Ok, Err}
 use Rattle.std.specs.Bool.{beq}
 use Rattle.base_files.specs.Extents.{block_len, record_in}
+use Rattle.cell_core.specs.Steps.{blamed, ◌>>=◌}
 use Rattle.game_tree.specs.Game.{GameTree}
 use Rattle.game_tree.specs.declared.head.Tag.{Tag}
 use Rattle.game_codec.specs.Record.{IsRecord}
@@ -11,7 +12,7 @@ use Rattle.index_entry.specs.Index.{index_read, entry_bytes}
 use Rattle.index_entry.specs.declared.entry.Entry.{Entry}
 use Rattle.index_entry.specs.declared.index.IndexHead.{IndexHead}
 use Rattle.name_base.specs.NameLists.{NameLists}
-use Rattle.name_base.specs.Reading.{◌>>=◌, names_at}
+use Rattle.name_base.specs.Reading.{names_at}
 use Rattle.sig_index.specs.Signature.{IsSig, sig_of}
 use Rattle.sig_index.specs.declared.signature.Sig.{Sig}
 use Rattle.base_core.specs.Entries.{extent_of}
@@ -23,11 +24,6 @@ use Rattle.base_core.specs.declared.fault.PlaceWhat.{PlaceWhat}
 use Rattle.base_core.specs.declared.fault.PlaceWhat.TheVariants as place
 use Rattle.base_core.specs.declared.fault.DerivedField.{DerivedField}
 use Rattle.base_core.specs.declared.fault.DerivedField.TheVariants as derived
-
--- What is read, with the fault as one of the base.
-abbrev pub blamed : {A E : Type 0} → (E → BaseFault) → Result A E → Result A BaseFault
-blamed blame (Ok x) = Ok x
-blamed blame (Err fault) = Err (blame fault)
 
 -- What comes next, unless there is a fault.
 abbrev pub unless : {A E : Type 0} → (E → BaseFault) → Option E → Result A BaseFault → Result A BaseFault

@@ -5,6 +5,7 @@ use Rattle.std.specs.Char.{is_ascii_digit}
 use Rattle.cell_core.specs.declared.man.Colour.{Colour}
 use Rattle.cell_core.specs.declared.man.Colour.TheVariants.{White, Black}
 use Rattle.cell_core.specs.Board.{Men}
+use Rattle.cell_core.specs.Steps.{◌>>=◌}
 use Rattle.chess_laws.specs.declared.setup.Rights.{Rights}
 use Rattle.chess_laws.specs.declared.setup.Setup.{Setup}
 use Rattle.chess_laws.specs.declared.fault.PlaceFault.{PlaceFault}
@@ -61,12 +62,6 @@ en_passant_named side _ = None
 
 abbrev pub is_counter : List ℕ → Bool
 is_counter word = nat_lt 0 (length word) && list_all is_ascii_digit word
-
--- The first fault, or what comes after it.
-infixl 10 ◌>>=◌
-abbrev pub ◌>>=◌ : {A B E : Type 0} → Result A E → (A → Result B E) → Result B E
-(Ok x) >>= next = next x
-(Err fault) >>= next = Err fault
 
 -- Whether the counters are counters, and nothing follows them.
 unfoldable pub counters_named : List ℕ → Result (Unit {0}) FenFault

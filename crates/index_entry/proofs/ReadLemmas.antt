@@ -3,6 +3,7 @@ use Rattle.std.proofs.Common.{◌≡◌, ◌<◌, ◌+◌, ◌*◌, ◌/◌, ◌
 use Rattle.std.specs.List.{range_with_len}
 use Rattle.std.proofs.lemmas.List.FromFn.{get_or-map-range_with_len}
 use Rattle.std.specs.Option.{option_map_or}
+use Rattle.cell_core.specs.Steps.{◌>>=◌}
 use Rattle.byteorder.specs.Endian.{big_from}
 use Rattle.byteorder.specs.Numbers.{big_from-lt}
 use Rattle.game_tree.specs.Date.{date_of}
@@ -13,7 +14,7 @@ use Rattle.index_entry.specs.Bits.{field}
 use Rattle.index_entry.specs.Places as places
 use Rattle.index_entry.proofs.FieldPlaces as spots
 use Rattle.index_entry.specs.Entry.{outcome_of, date_in, event_date_in, event_date_of, rating_of, is_bad_rating, home_in, entry_in, fault_in, entry_read}
-use Rattle.index_entry.specs.Reading.{◌>>=◌, outcome_at, eco_at, event_at, dates_at, rating_at, material_at, home_at, fields_at, entry_at}
+use Rattle.index_entry.specs.Reading.{outcome_at, eco_at, event_at, dates_at, rating_at, material_at, home_at, fields_at, entry_at}
 use Rattle.index_entry.proofs.BitLemmas.{IsBytes, field-run}
 use Rattle.index_entry.proofs.FieldLemmas as fields
 

@@ -2,6 +2,7 @@
 use Rattle.std.specs.Prelude.{◌≤◌, ◌<◌, ◌^◌, ◌+◌, ◌*◌, ℕ, not, nat_eq, nat_lt, if◌then◌else◌, List, [], ◌∷◌, ◌++◌, length, take, drop, codes, Result, Ok, Err}
 use Rattle.std.specs.Str.{bytes_eq}
 use Rattle.byteorder.specs.Endian.{big_number, big_bytes}
+use Rattle.cell_core.specs.Steps.{◌>>=◌}
 use Rattle.index_entry.specs.declared.index.IndexHead.{IndexHead}
 use Rattle.index_entry.specs.declared.fault.IndexFault.{IndexFault}
 use Rattle.index_entry.specs.declared.fault.IndexFault.TheVariants.{Short, Magic, Version, Games, Length}
@@ -34,15 +35,13 @@ header_read bytes =
     else if nat_lt 16777214 (number_in 14 3 bytes) then Err (Games (number_in 14 3 bytes))
     else Ok (head_in bytes)
 
+-- The header of an index of so many bytes, unless entries are cut off.
+abbrev pub with_entries : ℕ → IndexHead → Result IndexHead IndexFault
+with_entries len head = if nat_lt len (182 + 47 * head.games) then Err (Length len) else Ok head
+
 -- The first fault of an index, or else its header.
 unfoldable pub index_read : List ℕ → Result IndexHead IndexFault
-index_read bytes =
-    if nat_lt (length bytes) 182 then Err (Short (length bytes))
-    else if not (bytes_eq (take 8 bytes) magic) then Err Magic
-    else if not (nat_eq (number_in 8 2 bytes) 400) then Err (Version (number_in 8 2 bytes))
-    else if nat_lt 16777214 (number_in 14 3 bytes) then Err (Games (number_in 14 3 bytes))
-    else if nat_lt (length bytes) (182 + 47 * number_in 14 3 bytes) then Err (Length (length bytes))
-    else Ok (head_in bytes)
+index_read bytes = header_read bytes >>= with_entries (length bytes)
 
 -- The 47 bytes of a game's entry.
 abbrev pub entry_bytes : List ℕ → ℕ → List ℕ

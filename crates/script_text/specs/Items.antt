@@ -3,11 +3,11 @@ use Rattle.std.specs.Prelude.{ℕ, ◌+◌, nat_le, Bool, false, if◌then◌els
 use Rattle.std.specs.List.{list_any}
 use Rattle.std.specs.Option.{option_map_or}
 use Rattle.std.specs.Str.{bytes_eq}
+use Rattle.cell_core.specs.Steps.{◌>>=◌}
 use Rattle.script_text.specs.declared.fault.ScriptFault.{ScriptFault}
 use Rattle.script_text.specs.declared.fault.ScriptFault.TheVariants.{Argument}
 use Rattle.script_text.specs.Words.{Word}
 use Rattle.script_text.specs.Numbers.{split_once}
-use Rattle.script_text.specs.Arguments.{◌>>=◌}
 
 -- Key and value: what stands before the first `=`, and what stands behind it.
 abbrev pub key_and_value : Word → Option (List ℕ × List ℕ)
