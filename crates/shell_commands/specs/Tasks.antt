@@ -12,7 +12,7 @@ use Rattle.edit_commands.specs.Saving.{save_work}
 use Rattle.filter_commands.specs.Filters.{drop_work, filtering, join_work, keep_work}
 use Rattle.game_filter.specs.Filter.{all_in, all_out, intersection, negated, restricted, union}
 use Rattle.index_commands.specs.Indexing.{index_work}
-use Rattle.intake_commands.specs.Demo.{demo_work}
+use Rattle.search_commands.specs.Demo.{demo_work}
 use Rattle.intake_commands.specs.Importing.{import_work, replace_work}
 use Rattle.report_commands.specs.Classifying.{eco_work}
 use Rattle.report_commands.specs.Crosstables.{cross_work}

@@ -5,7 +5,7 @@ ghost use Rattle.command_runs.specs.Endings.{NoneLost, Serves};
 ghost use Rattle.script_text.specs.Sound.{IsSound, IsSoundLine};
 ghost use Rattle.script_text.specs.Tasks.{task};
 ghost use Rattle.script_text.specs.declared.command.Command.TheVariants.{Demo, Export};
-ghost use Rattle.intake_commands.specs.Demo.{demo_price};
+ghost use Rattle.search_commands.specs.Demo.{demo_price};
 ghost use Rattle.shell_commands.specs.Tasks.{BrokenTask, command_work, order_left, order_price, order_work, order_writes, SettledTask, tasks, writes_early};
 ghost use Rattle.shell_commands.specs.Watching.{ViewsDone, touches};
 ghost use Rattle.shell_state.specs.Carrying.{StillCarry};

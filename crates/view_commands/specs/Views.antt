@@ -4,13 +4,12 @@ use Rattle.cell_core.specs.Board.{Men}
 use Rattle.cell_core.specs.Packed.{Packed, packed_of}
 use Rattle.cell_core.specs.declared.man.Colour.{Colour}
 use Rattle.game_filter.specs.declared.op.Op.TheVariants.{Ignore}
-use Rattle.search_commands.specs.Searching.{position_len}
-use Rattle.search_commands.specs.Trees.{tree_hits, tree_of}
 use Rattle.shell_state.specs.Lines.{game_line}
 use Rattle.shell_state.specs.Slots.{Slot, exactly, exactly_on, hit_of_game, slot_at}
 use Rattle.shell_state.specs.Slots.Slot.{empty, idle, shows}
 use Rattle.shell_state.specs.State.{State}
 use Rattle.shell_state.specs.Work.{Work, quiet, reading}
+use Rattle.shell_state.specs.Meeting.{position_len, tree_hits, tree_of}
 use Rattle.tree_live.specs.RowChanges.{rows_changed}
 use Rattle.tree_live.specs.Slots.{in_slot}
 use Rattle.tree_live.specs.Views.{Shows}

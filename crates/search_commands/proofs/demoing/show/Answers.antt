@@ -1,7 +1,7 @@
 use Rattle.std.proofs.Common.{◌∙◌}
-use Rattle.intake_commands.proofs.DemoLaws.{line_cuts, line_shows}
-use Rattle.intake_commands.proofs.demoing.show.Goals as goal
-use Rattle.intake_commands.specs.Demo.{demo_line}
+use Rattle.search_commands.proofs.DemoLaws.{line_cuts, line_shows}
+use Rattle.search_commands.proofs.demoing.show.Goals as goal
+use Rattle.search_commands.specs.Demo.{demo_line}
 
 pub returns-in-Ok-clause-shows : goal.returns-in-Ok-clause-shows
 returns-in-Ok-clause-shows g c = λ s st.

@@ -1,6 +1,6 @@
 use Rattle.std.proofs.Common.{None, ◌∙◌}
-use Rattle.intake_commands.proofs.DemoLaws.{adding_more, refused_here}
-use Rattle.intake_commands.proofs.demoing.add_next.Goals as goal
+use Rattle.search_commands.proofs.DemoLaws.{adding_more, refused_here}
+use Rattle.search_commands.proofs.demoing.add_next.Goals as goal
 use Rattle.shell_state.proofs.CarryLaws.{carry_of}
 
 pub returns-in_err-head-clause-carries : goal.returns-in_err-head-clause-carries

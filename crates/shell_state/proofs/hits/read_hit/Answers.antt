@@ -9,8 +9,8 @@ use Rattle.sig_index.specs.Games.{head_in}
 use Rattle.tree_rows.specs.Hits.{hit_of}
 use Rattle.tree_rows.specs.MoveText.{IsKey}
 use Rattle.tree_rows.specs.declared.hit.GameHit.{GameHit}
-use Rattle.search_commands.proofs.TreeLaws.{game-at, hit-read, key-from, none-read}
-use Rattle.search_commands.proofs.trees.read_hit.Goals as goal
+use Rattle.shell_state.proofs.ReadHitLaws.{game-at, hit-read, key-from, none-read}
+use Rattle.shell_state.proofs.hits.read_hit.Goals as goal
 use Rattle.shell_state.proofs.HoldingLaws.{fetch_device}
 use Rattle.shell_state.specs.Ends.{IsDevice}
 use Rattle.shell_state.specs.declared.halt.Halt.{Halt}

@@ -1,8 +1,8 @@
 use Rattle.std.proofs.Common.{◌≡◌, ◌≤◌, ◌*◌}
 use Rattle.command_runs.specs.Counts.{NoneFell, counts}
-use Rattle.intake_commands.proofs.demoing.add_games.Given as goal
-use Rattle.intake_commands.specs.Demo.{adding}
-use Rattle.intake_commands.specs.Demoing.{IsAdding}
+use Rattle.search_commands.proofs.demoing.add_games.Given as goal
+use Rattle.search_commands.specs.Demo.{adding}
+use Rattle.search_commands.specs.Demoing.{IsAdding}
 use Rattle.shell_state.specs.Stands.{Sound, Stands}
 use Rattle.shell_state.specs.State.{State}
 

@@ -2,9 +2,9 @@
 use Rattle.std.specs.Prelude.{◌≡◌, ℕ, None, List, Some, ◌+◌, ◌≤◌, ⊤, Option, Ok, [], Result, Err}
 use Rattle.base_files.specs.Seen.{Seen}
 use Rattle.command_runs.specs.Endings.{Done, Halted}
-use Rattle.intake_commands.specs.Demo.{Adding}
-use Rattle.intake_commands.specs.declared.demoing.Added.{Added}
-use Rattle.intake_commands.specs.declared.demoing.Added.TheVariants.{Plies, Refused}
+use Rattle.search_commands.specs.Demo.{Adding}
+use Rattle.search_commands.specs.declared.demoing.Added.{Added}
+use Rattle.search_commands.specs.declared.demoing.Added.TheVariants.{Plies, Refused}
 use Rattle.shell_state.specs.Ends.{IsFault}
 use Rattle.shell_state.specs.Stands.{Holding, Stands}
 use Rattle.shell_state.specs.State.{State}

@@ -1,7 +1,7 @@
 use Rattle.std.proofs.Common.{None, ◌∙◌, refl, arith}
-use Rattle.intake_commands.proofs.DemoLaws.{adding_ends, adding_first, adding_on, carry_adding, refused_on}
-use Rattle.intake_commands.proofs.demoing.add_games.Goals as goal
-use Rattle.intake_commands.specs.Demo.{adding}
+use Rattle.search_commands.proofs.DemoLaws.{adding_ends, adding_first, adding_on, carry_adding, refused_on}
+use Rattle.search_commands.proofs.demoing.add_games.Goals as goal
+use Rattle.search_commands.specs.Demo.{adding}
 use Rattle.shell_state.proofs.CarryLaws.{carry_of}
 
 pub loop-number-init : goal.loop-number-init

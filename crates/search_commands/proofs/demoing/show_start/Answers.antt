@@ -1,6 +1,6 @@
-use Rattle.intake_commands.proofs.DemoLaws.{search_asks, search_done, search_shows, tree_asks, tree_shows}
-use Rattle.intake_commands.proofs.demoing.show_start.Goals as goal
-use Rattle.intake_commands.specs.Demo.{shown_after}
+use Rattle.search_commands.proofs.DemoLaws.{search_asks, search_done, search_shows, tree_asks, tree_shows}
+use Rattle.search_commands.proofs.demoing.show_start.Goals as goal
+use Rattle.search_commands.specs.Demo.{shown_after}
 
 pub returns-in-Ok-clause-shows : goal.returns-in-Ok-clause-shows
 returns-in-Ok-clause-shows g c = λ s st.

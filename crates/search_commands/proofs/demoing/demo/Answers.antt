@@ -1,7 +1,7 @@
 use Rattle.std.proofs.Common.{None, arith, refl}
-use Rattle.intake_commands.proofs.DemoLaws.{carry_adding, demo_asks, demo_serves, refusal_serves}
-use Rattle.intake_commands.proofs.demoing.demo.Goals as goal
-use Rattle.intake_commands.specs.Demo.{adding, demo_text, demo_work}
+use Rattle.search_commands.proofs.DemoLaws.{carry_adding, demo_asks, demo_serves, refusal_serves}
+use Rattle.search_commands.proofs.demoing.demo.Goals as goal
+use Rattle.search_commands.specs.Demo.{adding, demo_text, demo_work}
 use Rattle.shell_state.proofs.CarryLaws.{carry_same}
 use Rattle.shell_state.proofs.Served.{search_cuts}
 

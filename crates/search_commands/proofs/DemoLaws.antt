@@ -1,6 +1,6 @@
 -- Laws of games that are made of draws and added one by one, and of showing them.
 use Rattle.std.proofs.Common.{false, ◌+◌, ℕ, List, Option, ◌≡◌, ap, ◌∙◌, None, sym, true, [], ◌++◌, Some, subst, Ok, refl, suc, arith, zero, ◌-◌, ◌<◌, Result, Err, ◌≤◌, OnOk}
-use Rattle.std.specs.Prelude.{IfErr, cond, is_some, option_map, unwrap_or}
+use Rattle.std.specs.Prelude.{IfErr, cond, if◌then◌else◌, is_some, option_map, unwrap_or}
 use Rattle.base_files.specs.Seen.{Seen}
 use Rattle.base_files.specs.Told.{adds}
 use Rattle.base_files.specs.declared.faults.Stop.TheVariants as stop
@@ -12,10 +12,9 @@ use Rattle.demo_games.specs.Demo.{Made, demo_game}
 use Rattle.game_filter.specs.declared.op.Op.TheVariants.{And, Ignore}
 use Rattle.game_tree.specs.Replay.{plies_of}
 use Rattle.sig_index.specs.declared.pos_query.PosQuery.{PosQuery}
-use Rattle.intake_commands.specs.Demo.{adding, one_more, Adding, at_start, shown_after, shown_text, demo_line, demo_text, demo_after, demo_work, shown_price, demo_price}
-use Rattle.intake_commands.proofs.ByCase.{unless_ended, unless_refusal}
-use Rattle.intake_commands.specs.Demoing.{IsAdding, IsRefused, Wrote}
-use Rattle.search_commands.specs.Searching.{search_position_text, search_position_after, search_position_work, position_len}
+use Rattle.search_commands.specs.Demo.{adding, one_more, with_made, Adding, at_start, shown_after, shown_text, demo_line, demo_text, demo_after, demo_work, shown_price, demo_price}
+use Rattle.search_commands.specs.Demoing.{IsAdding, IsRefused, Wrote}
+use Rattle.search_commands.specs.Searching.{search_position_text, search_position_after, search_position_work}
 use Rattle.search_commands.specs.Trees.{tree_said, tree_work}
 use Rattle.shell_state.proofs.CarryLaws.{carry_before}
 use Rattle.shell_state.proofs.Causing.{broken_by_fault}
@@ -30,6 +29,16 @@ use Rattle.shell_state.specs.Work.{price, works, Work}
 use Rattle.shell_state.specs.declared.halt.Halt.{Halt}
 use Rattle.shell_state.specs.declared.halt.Halt.TheVariants as halt
 use Rattle.shell_state.specs.declared.refusing.Refusal.{Refusal}
+use Rattle.shell_state.specs.Meeting.{position_len}
+
+-- What a made game comes to, by what stands in its way.
+abbrev pub unless_refusal : Option Refusal → Adding → Made → Adding
+unless_refusal why a made =
+    if is_some why then record a { refused = why }
+    else record { state = with_game a.state made.head made.game; number = made.left; plies = a.plies + plies_of made.game; refused = None }
+
+abbrev pub unless_ended : Option Refusal → Adding → Made → Adding
+unless_ended why a made = if is_some why then a else with_made a made
 
 -- ---- what `demo` does, by whether a game was refused
 

@@ -3,8 +3,8 @@ ghost use Rattle.std.specs.Prelude.{◌≡◌, ◌≤◌, ◌+◌, ◌++◌, ℕ
 ghost use Rattle.base_files.specs.Told.{adds};
 ghost use Rattle.command_runs.specs.Counts.{Causes, counts};
 ghost use Rattle.command_runs.specs.Endings.{Halted, NoneLost, Serves};
-ghost use Rattle.intake_commands.specs.Demo.{Adding, adding, at_start, demo_line, one_more, shown_after, shown_text, demo_work, shown_price, demo_price};
-ghost use Rattle.intake_commands.specs.Demoing.{Adds, AddsNext, IsAdding, IsShort, Wrote};
+ghost use Rattle.search_commands.specs.Demo.{Adding, adding, at_start, demo_line, one_more, shown_after, shown_text, demo_work, shown_price, demo_price};
+ghost use Rattle.search_commands.specs.Demoing.{Adds, AddsNext, IsAdding, IsShort, Wrote};
 ghost use Rattle.shell_state.specs.Carrying.{StillCarry};
 ghost use Rattle.shell_state.specs.Ends.{IsDevice, IsOutput};
 ghost use Rattle.shell_state.specs.Refusing.{refusal_line};
@@ -12,13 +12,14 @@ ghost use Rattle.shell_state.specs.Stands.{Broken, Sound, Stands, WhyHalt};
 ghost use Rattle.shell_state.specs.State.{State};
 ghost use Rattle.shell_state.specs.Work.{works};
 
+use crate::positions::search_position;
+use crate::trees::tree;
 use base_files::{Files, Sink, Stop};
 use cell_core::Colour;
 use chess_laws::Position;
 use demo_games::Generator;
 use game_filter::Op;
 use game_tree::plies;
-use search_commands::{search_position, tree};
 use shell_state::{Halt, Machine, Refusal, refusal_line, write_line};
 use sig_index::{Mode, PosQuery};
 use std::alloc::{AllocError, Global};
