@@ -376,11 +376,13 @@ with_are (comment text s) (first ∷ texts) fits =
 with_are (variation inner s) texts fits =
     let within = with_texts inner texts in
     let one = with_are inner texts (omega (arith, fits, length-append (texts_of inner) (texts_of s))) in
-    let sizes = (length-append (texts_of within.0) within.1, ap length one.0, one.1, length-append (texts_of inner) (texts_of s)) in
+    let both = length-append (texts_of inner) (texts_of s) in
+    let all = length-append (texts_of within.0) within.1 in
+    let whole = ap (λ (ts : List (List ℕ)). length ts) one.0 in
     let later = with_texts s within.1 in
-    let other = with_are s within.1 (omega (arith, fits, sizes.0, sizes.1, sizes.2, sizes.3)) in (
+    let other = with_are s within.1 (omega (arith, fits, both, all, whole, one.1)) in (
       append_assoc (texts_of within.0) (texts_of later.0) later.1 ∙ ap (λ (ts : List (List ℕ)). texts_of within.0 ++ ts) other.0 ∙ one.0,
-      omega (arith, sizes.2, sizes.3, length-append (texts_of within.0) (texts_of later.0), other.1),
+      omega (arith, both, one.1, length-append (texts_of within.0) (texts_of later.0), other.1),
     )
 
 with_all : (s : Movetext) (texts : List (List ℕ)) → length texts ≡ length (texts_of s) → texts_of (with_texts s texts).0 ≡ texts

@@ -21,8 +21,8 @@ both : (bytes : List ℕ) (r : Result IndexHead IndexFault) (head : IndexHead) �
 both bytes (Err fault) head is = absurd cc
 both bytes (Ok found) head is = by (nat_lt (length bytes) (182 + 47 * found.games)) refl is
   where
-    by : (b : Bool) → nat_lt (length bytes) (182 + 47 * found.games) ≡ b → (if b then Err (Length (length bytes)) else Ok found) ≡ Ok head →
-        (Ok found ≡ Ok head) × (182 + 47 * head.games ≤ length bytes)
+    by : (b : Bool) → nat_lt (length bytes) (182 + 47 * found.games) ≡ b → ◌≡◌ {A = Result IndexHead IndexFault} (if b then Err (Length (length bytes)) else Ok found) (Ok head) →
+        (◌≡◌ {A = Result IndexHead IndexFault} (Ok found) (Ok head)) × (182 + 47 * head.games ≤ length bytes)
     by true short is = absurd cc
     by false long is =
         let same : found ≡ head = cc in
