@@ -214,9 +214,9 @@ def readable(modules, cited, files):
 
 
 def heading(file):
-    """The comment that a file begins with, as one line."""
+    """The comment that a file begins with, as one line, without the signs of lists."""
     lines = itertools.takewhile(lambda it: it.startswith("--"), file.text.splitlines())
-    return " ".join(it.removeprefix("--").strip() for it in lines)
+    return " ".join(it.removeprefix("--").strip().removeprefix("- ") for it in lines)
 
 
 def source_of(file):

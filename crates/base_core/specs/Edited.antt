@@ -24,8 +24,8 @@ pub record ChangedHeads (old new : Kept) : Type 0 where
   pub end : new.end ≡ old.end
   pub unsaved : new.unsaved ≡ true
 
--- The edit was done and placed a record: what was kept stood for a base beside a games file that ends there, and what is kept now stands for
--- the base after the edit beside the games file with that record behind zero bytes or none.
+-- The edit was done and placed a record. If what was kept stood for a base beside a games file that ends there, what is
+-- kept now stands for the base after the edit. The games file then has that record too, behind zero bytes or none.
 abbrev pub Places : List ℕ → (Base → Base) → Kept → Kept → Type 0
 Places bytes after old new =
     (games : List ℕ) (base : Base) → length games ≡ old.end → Represents old games base → Represents new (games ++ padded old.end bytes) (after base)

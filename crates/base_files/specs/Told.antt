@@ -1,4 +1,5 @@
--- Contents that an object may tell: `Some` of the bytes where it tells them, `None` where it does not (this project's own).
+-- Contents that an object may tell: `Some` of the bytes, or `None` from an object that tells nothing (this project's
+-- own).
 use Rattle.std.specs.Prelude.{◌≡◌, ℕ, List, ◌++◌, take, drop, length, ⊤, Option, None, Some}
 
 -- What is told after the bytes are added at its end: an object that tells nothing goes on telling nothing.

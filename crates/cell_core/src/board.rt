@@ -173,7 +173,7 @@ impl Board {
         self.enter(target, Some(arriving));
     }
 
-    /// Takes this man away from the square on which he stands.
+    /// Takes this man away from the square on which it stands.
     #[inline(always)]
     fn take(&mut self, number: u8, man: Man)
         requires on_board { number < 64 }

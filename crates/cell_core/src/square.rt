@@ -23,7 +23,7 @@ impl Model for Square {
 }
 
 impl Square {
-    /// The square with the number `n`, or `None` exactly where `n` is above 63.
+    /// The square with the number `n`, or `None` if `n` is above 63.
     pub fn new(n: u8) -> Option<Square>
         ensures numbered { SomeIff result (n < 64) n }
     {

@@ -42,7 +42,7 @@ abbrev pub HasFitEnPassant : Colour → Option ℕ → Type 0
 HasFitEnPassant c None = Unit {0}
 HasFitEnPassant c (Some s) = rank_of s ≡ en_passant_rank c
 
--- A right is left only where king and rook stand at home.
+-- A right is left only if its king and rook stand at home.
 abbrev pub HasFitRights : Setup → Type 0
 HasFitRights p = (c : Colour) (w : Wing) → IsTrue (has_right p.rights c w) → StandAtHome p.board c w
 

@@ -117,7 +117,7 @@ fn come(squares: SquareSet, occupied: u64, kind: Kind, s: Square) -> bool
     come_along(squares, occupied, kind, s)
 }
 
-// The same, where there are some.
+// The same for squares of which there is at least one.
 #[inline(never)]
 fn come_along(squares: SquareSet, occupied: u64, kind: Kind, s: Square) -> bool
     ensures { (new : Men) → occupied ≡ set_of is_some new → IsTrue result ↔ ((a : ℕ) × (Has squares a × Any (Runs new s a) (slides kind))) }

@@ -116,7 +116,8 @@ pub fn has_no_own(board: &Board, colour: Colour, s: Square) -> bool
     }
 }
 
-/// Whether a move names a promotion exactly where a pawn comes to the last rank.
+/// Whether a pawn that comes to the last rank is promoted to a queen, rook, bishop or knight, and no other move names a
+/// promotion.
 #[inline(always)]
 fn promotes_rightly(side: Colour, kind: Kind, m: &Move) -> bool
     ensures { result ≡ promotes_rightly side kind m.now }

@@ -136,7 +136,7 @@ fn one_less(word: u64, kind: Kind) -> u64
     }
 }
 
-// The word with one less in the byte from this bit on, where that is not 0.
+// The word with one less in the byte from this bit on, unless that byte is 0.
 #[inline(always)]
 fn less_at(word: u64, shift: u32) -> u64
     requires { shift < 64 }

@@ -12,7 +12,7 @@ use Rattle.chess_text.specs.Fault.{fault_of}
 use Rattle.chess_text.specs.Placement.{PlacementText}
 use Rattle.chess_text.specs.Fields.{Spaced, side_text, RightsText, EnPassantText, CounterText}
 
--- The six fields of a FEN, from its words: fields 3 to 6 may be missing from the right, and are then -, -, 0 and 1; a
+-- The six fields of a FEN, from its words. Fields 3 to 6 may be missing from the right, and are then -, -, 0 and 1. A
 -- missing field 1 or 2 is an empty word, which says nothing (this project's own: the standard wants all six).
 abbrev pub placement_field : List (List ℕ) → List ℕ
 placement_field words = slice_index_or words 0 []

@@ -20,7 +20,7 @@ use Rattle.chess_text.specs.Fen.{kept}
 abbrev pub skipped : List ℕ → List ℕ
 skipped text = drop (prefix_len (λ byte. byte == 32) text) text
 
--- The first word, empty where there is none, and what stands behind it.
+-- The first word, empty if there is none, and what stands behind it.
 unfoldable pub word_of : List ℕ → List ℕ
 word_of text = take_while (λ byte. not (byte == 32)) (skipped text)
 

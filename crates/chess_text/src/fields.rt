@@ -9,7 +9,7 @@ ghost use Rattle.chess_text.specs.FieldReading.{word_of, rest_of, side_named, wi
 use cell_core::{Colour, Square};
 use chess_laws::{Rights, en_passant_rank};
 
-// The first word of the text, empty where there is none, and what stands behind it.
+// The first word of the text, empty if there is none, and what stands behind it.
 #[tactic(auto, using(crate::proofs::WordLaws::word_is, crate::proofs::WordLaws::rest_is))]
 pub fn next_word(text: &[u8]) -> (&[u8], &[u8])
     ensures word { result.0.now ≡ word_of text.now }

@@ -1,5 +1,6 @@
--- What bytes are as a record, read from left to right (this project's own, after Scid's format): extra tags and a zero byte, the start, the moves,
--- and the texts of the comments in the order of their marks; or the first fault, before which all stands as in a record.
+-- What bytes are as a record, read from left to right (this project's own, after Scid's format). A record has extra
+-- tags and a zero byte, the start, the moves, and the texts of the comments in the order of their marks. Bytes that are
+-- no record have a first fault, before which all stands as in a record.
 use Rattle.std.specs.Prelude.{ℕ, zero, suc, ◌-◌, ◌%◌, ◌==◌, if◌then◌else◌, List, [], ◌∷◌, Some, None, Result, Ok, Err, length, drop, slice_index_or}
 use Rattle.chess_laws.specs.declared.setup.Setup.{Setup}
 use Rattle.chess_text.specs.FenAnswer.{fen_answer}

@@ -12,9 +12,9 @@ use chess_laws::Position;
 use move_codec::Numbered;
 use std::marker::Model;
 
-/// A place in a line: how many variations are open there, the position before the last move and the one behind it, whether
-/// the line has a move yet, and whether a comment stands at the place. The position before the last move is kept only where
-/// a variation of that move may begin.
+/// A place in a line: how many variations are open there, the position before the last move and the one behind it. It
+/// also has whether the line has a move yet, and whether a comment stands at the place. The position before the last
+/// move is kept only if a variation of that move may begin.
 #[derive(Drop)]
 pub(crate) struct Place {
     depth: u32,

@@ -34,8 +34,8 @@ taken_up head None = head
 taken_up head (Some date) = record head { event_date = date; tags = tags_without event_date_name head.tags }
 
 -- The settled head. An event date within the rule removes all tags EventDate. One outside it becomes unknown, and a tag
--- with its text, added last, takes the place of all tags EventDate. Without an event date the first tag EventDate that
--- reads as a date within the rule gives it, and all tags EventDate go; where there is none, the tags stay.
+-- with its text, added last, takes the place of all tags EventDate. Without an event date, the first tag EventDate that
+-- reads as a date within the rule gives it, and all tags EventDate go. Without such a tag, the tags stay.
 unfoldable pub settled : Head → Head
 settled head =
     if is_near head.event_date head.date then record head { tags = tags_without event_date_name head.tags }

@@ -20,7 +20,7 @@ use Rattle.game_tree.specs.declared.tag_edit.TagEdit.TheVariants as edit
 use Rattle.game_tree.specs.declared.tag_edit.TagEditError.{TagEditError}
 use Rattle.game_tree.specs.declared.tag_edit.TagEditError.TheVariants as fault
 
--- The edit with a value that was read, or the fault where there is none.
+-- The edit with a value that was read, or the fault if none was.
 abbrev pub valued : {A : Type 0} → (A → TagEdit) → Option A → Result TagEdit TagEditError
 valued make value = ok_or (option_map make value) fault.Value
 

@@ -109,8 +109,8 @@ home_from i (suc count) = places.home_value i ++ home_from (suc i) count
 abbrev pub event_places : List ℕ
 event_places = places.event_code ++ (places.event_month ++ places.event_day)
 
--- The places that say nothing: the spare bit, the code of a stored line, the home values past the end of their list, the kind of no
--- rating, and the bits of an event date where there is none.
+-- The places that say nothing: the spare bit, the code of a stored line, the home values past the end of their list,
+-- and the kind of no rating. Without an event date, its bits are among them.
 unfoldable pub free_places : List ℕ → List ℕ
 free_places bytes =
     places.spare

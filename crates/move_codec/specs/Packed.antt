@@ -36,7 +36,7 @@ knight_differences = 0 ∷ 47 ∷ 49 ∷ 54 ∷ 58 ∷ 70 ∷ 74 ∷ 79 ∷ 81 �
 abbrev pub by_difference : List ℕ → ℕ → ℕ → Option ℕ
 by_difference differences from value = option_and_then (λ difference. at_difference from difference) (slice_get differences value)
 
--- A square of this file and rank, or none where there is no such rank or where it is the man's own square.
+-- A square of this file and rank, or none if the rank is none or the square is the man's own.
 abbrev pub other_square : ℕ → ℕ → ℕ → Option ℕ
 other_square from file rank =
     if nat_lt rank 8 && not (square file rank == from) then Some (square file rank) else None
@@ -116,7 +116,7 @@ abbrev pub named_by : Option Man → Colour → ℕ → ℕ → List ℕ → Res
 named_by None side from value rest = Err NoMan
 named_by (Some man) side from value rest = named_value man.kind side from value rest
 
--- The move of the man with a number, by his square.
+-- The move of the man with a number, by its square.
 abbrev pub named_from : Numbered → Option ℕ → ℕ → List ℕ → Result (Move × ℕ) MoveFault
 named_from n None value rest = Err NoMan
 named_from n (Some from) value rest = named_by (man_at n.position.board from) n.position.side from value rest

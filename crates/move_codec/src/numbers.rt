@@ -251,7 +251,7 @@ fn number_on(squares: &[Square], square: Square) -> usize
     }
 }
 
-/// The place of a square in a list, or `None` where it is not there.
+/// The place of a square in a list, or `None` if it is not in the list.
 fn find(squares: &[Square], square: Square) -> Option<usize>
     ensures { result ≡ position (λ s. s == square) squares.now }
 {

@@ -40,7 +40,7 @@ pub(crate) fn knight_square(from: Square, value: u8) -> Option<Square>
     at_difference(from, difference)
 }
 
-/// The square of this file and rank, or `None` where there is no such rank or where it is the man's own square.
+/// The square of this file and rank, or `None` if the rank is none or the square is the man's own.
 fn other_square(from: Square, file: u8, rank: u8) -> Option<Square>
     requires { file < 8 }
     ensures { result ≡ other_square from file rank }
