@@ -1,4 +1,4 @@
--- A seat at a base: what one client has of his own (this project's own).
+-- A seat at a base: what one client has of its own (this project's own).
 use Rattle.std.specs.Prelude.{◌≡◌, ℕ, ◌+◌, ◌<◌, ◌≤◌, ◌&&◌, Bool, nat_lt, List, [], Option, None, All, is_some, length, map, replicate, option_map}
 use Rattle.game_filter.specs.Filter.{all_in}
 use Rattle.filter_seat.specs.SavedFilters.{most_saved}

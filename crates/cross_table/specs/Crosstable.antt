@@ -120,7 +120,7 @@ unfoldable pub signs : List Pairing → List ℕ → List ℕ → List ℕ
 signs games row column =
     map (λ (m : Meeting). sign m.score) (filter (λ (m : Meeting). bytes_eq column m.other) (meetings row games))
 
--- A dot where there is no sign.
+-- A dot in the place of no sign.
 abbrev pub or_dot : List ℕ → List ℕ
 or_dot [] = codes "."
 or_dot (first ∷ more) = first ∷ more

@@ -31,7 +31,7 @@ after_draws (suc count) x = after_draws count (next_number x)
 
 -- ---- the line of a game
 
--- The move that a draw takes of these, and none where there is none or are more than 256.
+-- The move that a draw takes of these, and none if there are none or more than 256.
 unfoldable pub picked : ℕ → List Move → Option Move
 picked draw moves = if nat_lt 256 (length moves) then None else slice_get moves (draw % length moves)
 

@@ -106,11 +106,12 @@ impl EcoTable {
         }
     }
 
-    /// The code of the game of a record, or `None` where it has none: that of the line that ends on the board, with the same side to move,
-    /// of the last position of the main line on which one ends. The start is one of these positions. A record has fewer than 2^32 bytes.
+    /// Gives the code of the game of a record, or `None` if it has none. The code is that of the line that ends on the
+    /// board, with the same side to move, of the last position of the main line on which one ends. The start is one of
+    /// these positions. A record has fewer than 2^32 bytes.
     ///
-    /// No memory is taken. The walk ends where fewer men are left than at the end of each line, since men never come back. The fault comes
-    /// only where the bytes are no record.
+    /// No memory is taken. The walk ends when fewer men are left than at the end of each line, since men never come
+    /// back. Bytes that give a fault are no record.
     pub fn classify(&self, bytes: &[u8]) -> Result<Option<u16>, RecordFault>
         requires few { length bytes.now < 2 ^ 32 }
         ensures code { IfOk result (λ code. (tags : List Tag) (game : GameTree) → IsRecord bytes.now tags game → code ≡ eco_of self.now game) }

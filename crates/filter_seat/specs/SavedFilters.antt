@@ -59,6 +59,6 @@ kept_in saved name plies = kept_at saved (record { name = name; plies = plies })
 unfoldable pub dropped_in : List SavedFilter → List ℕ → List SavedFilter
 dropped_in saved name = option_map_or (λ place. take place saved ++ drop (place + 1) saved) (place_of saved name) saved
 
--- A filter joined with the one of a name, where there is one.
+-- A filter joined with the one of a name, if there is one.
 abbrev pub joined_with : (List (Option ℕ) → List (Option ℕ) → List (Option ℕ)) → List (Option ℕ) → Option (List (Option ℕ)) → List (Option ℕ)
 joined_with join own other = option_map_or (join own) other own

@@ -1,4 +1,4 @@
--- What one user of an open base has of his own. This project's own.
+-- What one user of an open base has alone. This project's own.
 use Rattle.std.specs.Prelude.{◌≡◌, ℕ, List, [], ◌∷◌, ◌++◌, Option, None, Some, All, length, map}
 use Rattle.game_filter.specs.Filter.{all_in}
 use Rattle.filter_seat.specs.SavedFilters.{kept_with}

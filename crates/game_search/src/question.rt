@@ -25,8 +25,8 @@ pub trait Question {
         ensures reads { (unread : Unread) → tells self.old unread → is_none result ≡ unread.reads i sig.now }
         ensures known { (unread : Unread) → tells self.old unread → IfSome result (λ ply. ply ≡ unread.ply i) };
 
-    /// The first matching ply of the game of a record, if it has one and this is its signature; a fault comes only where the bytes are no
-    /// record.
+    /// The first matching ply of the game of a record, if it has one and this is its signature. Bytes that give a fault
+    /// are no record.
     fn in_record(&self, record: &[u8], sig: &Brief<'_>) -> Result<Option<u32>, RecordFault>
         requires short { length record.now ≤ 131071 }
         ensures first { IfOk result (λ ply. (tags : List Tag) (game : GameTree) → IsRecord record.now tags game → IsSig game sig.now → ply ≡ first self.now game) }

@@ -15,8 +15,8 @@ pub fn tests_are_sound()
         → passes sig query ≡ false → matches_at query game ply ≡ false }
 {}
 
-/// A law: the ply that a search computes for a game is the first of its main line at which it matches, and it computes none exactly where
-/// the game matches nowhere.
+/// A law: the ply that a search computes for a game is the first of its main line at which it matches. The search
+/// computes none if and only if the game matches nowhere.
 pub fn first_plies_are_first()
     ensures first { (query : MatQuery) (game : GameTree) → FirstPly query game (first_of query game) }
 {}

@@ -73,8 +73,9 @@ abbrev pub all_marks : List ℕ → ℕ
 all_marks [] = 0
 all_marks (letter ∷ letters) = 1 + 2 * all_marks letters
 
--- The head, which is settled, so that an event date stands in its field and not in its tag. Where there is no end mark, it is `*`. A date
--- that is missing or does not read is unknown, and the opening code is that of the first tag of which it reads, or 0.
+-- The head, which is settled, so that an event date stands in its field and not in its tag. A missing end mark is `*`.
+-- A date that is missing or does not read is unknown, and the opening code is that of the first tag of which it reads,
+-- or 0.
 unfoldable pub head_from : List Tag → Option Outcome → Head
 head_from tags mark = settled (record {
   white = name_from (codes "White") tags;

@@ -61,7 +61,7 @@ impl Buffer {
         self.from += count;
     }
 
-    /// Reads until there are so many, or to the source's end, where there are fewer.
+    /// Reads until there are so many, or to the source's end.
     pub(crate) fn fill<S: Source>(&mut self, source: &mut S, wanted: usize) -> Result<(), PgnError>
         requires room { wanted + 4096 ≤ most_ahead }
         ensures front { take (length self.old) self.new ≡ self.old }

@@ -14,7 +14,7 @@ use game_tree::Tag;
 use std::alloc::{AllocError, Global};
 use std::marker::Model;
 
-/// A tag that was read. Its name is compared once, and kept only where the field does not tell it.
+/// A tag that was read. Its name is compared once, and kept only if the field does not tell it.
 #[derive(Drop)]
 pub(crate) struct ReadTag {
     field: Field,

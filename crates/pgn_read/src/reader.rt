@@ -162,7 +162,7 @@ fn read_game<S: Source>(
     }
 }
 
-// Takes the next token into the game. The bytes are read on only where those that are there do not tell it.
+// Takes the next token into the game. The bytes are read on only if those that are there do not tell it.
 #[tactic(auto, using(crate::proofs::ItemLaws::told_effect, crate::proofs::ItemLaws::told_moved))]
 fn take_token<S: Source>(
     alloc: Global,

@@ -199,7 +199,7 @@ impl Window {
         Ok(())
     }
 
-    // Reads until there are so many unread bytes, where there are fewer, or to the source's end.
+    // Reads until there are so many unread bytes, or to the source's end, unless there are so many already.
     fn look<S: Source>(&mut self, source: &mut S, count: usize) -> Result<(), PgnError>
         requires few { count ≤ 8 }
         requires told { IsTrue self.old.ended → Tells (S.left source.old) [] }

@@ -152,7 +152,7 @@ fn put_nags(writer: &mut Writer, nags: &[u8]) -> Result<(), AllocError>
     Ok(())
 }
 
-// Adds a comment, where there is one.
+// Adds a comment, if there is one.
 fn put_comment(writer: &mut Writer, comment: &Option<Text>) -> Result<(), AllocError>
     ensures tokens { OnOk result (writer.new ≡ put_all (comment_tokens comment.now) writer.old) }
 {

@@ -76,7 +76,7 @@ pub record Index : Type 0 where
   pub depth : ℕ
   pub rows : List (List Place)
 
--- The places that an index has of each game, and none where there is no index.
+-- The places that an index has of each game, and none without an index.
 abbrev pub rows_told : Option Index → List (List Place)
 rows_told None = []
 rows_told (Some index) = index.rows

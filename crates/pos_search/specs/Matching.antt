@@ -77,7 +77,7 @@ is_sought query place = matches query place.0
 abbrev pub first_if_aside : PosQuery → GameTree → Option ℕ
 first_if_aside query game = if query.vars then option_map (λ (place : Setup × ℕ). place.1) (find (is_sought query) (places game)) else None
 
--- The first ply of the main line, and where there is none that of the variations.
+-- The first ply of the main line, and if there is none that of the variations.
 abbrev pub first_of : PosQuery → GameTree → Option ℕ
 first_of query game = option_or (first_on_main query game) (first_if_aside query game)
 

@@ -159,7 +159,7 @@ impl<'a> Sought<'a> {
         }
     }
 
-    // Whether the men of the sought board that are missing can still be made where there are so many.
+    // Whether the men of the sought board that are missing can still be made with so many men on the board.
     pub(crate) fn men_can_come(&self, counts: &Counts) -> bool
         ensures { result ≡ can_come (just (counts_of self.now.board)) counts.now }
     {

@@ -56,10 +56,11 @@ pub fn hit<G: Games, F: Files>(
     )
 }
 
-/// Leaves in the filter what its entries become by a search of a position. The filter has one entry per game, and `buf` has at least
-/// 131,072 bytes. An index, if there is one, is meant to be one of these games. A game is read where `op` looks at it, it can match and the
-/// index does not decide it, and so many bytes count as asked. After an error the games from one on have their old entries, and where the
-/// files tell what they hold and the index is of these games those before it their new ones; if the error names a game, it is that one.
+/// Leaves in the filter what its entries become by a search of a position. The filter has one entry per game, and `buf`
+/// has at least 131,072 bytes. An index, if there is one, is meant to be one of these games. A game is read if `op`
+/// looks at it, it can match and the index does not decide it, and so many bytes count as asked. After an error the
+/// games from one on have their old entries; if the error names a game, it is that one. The games before it have their
+/// new entries, if the files tell what they hold and the index is of these games.
 pub fn search<G: Games, F: Files>(
     games: &G,
     q: &PosQuery,

@@ -57,7 +57,8 @@ script_at last end clients (Some (t, word)) (line ∷ lines) =
 abbrev pub script_by : (Tagged → List Tagged) → Clients → List ℕ → Script
 script_by last clients bytes = script_at last (lines_from [] bytes).1 clients None (lines_from [] bytes).0
 
--- The end of the input ends the last task, and stands for `quit` of the one client where that is not; at a desk it ends the last task alone.
+-- The end of the input ends the last task. With one client, it stands for `quit` too, unless that task is `quit`; at a
+-- desk it ends the last task alone.
 abbrev pub at_end : Bool → Tagged → List Tagged
 at_end desk last = if desk || is_quit last.task.order then last ∷ [] else last ∷ tagged_task (said (Some 0) (Ok Quit)) [] ∷ []
 

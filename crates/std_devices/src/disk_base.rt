@@ -189,7 +189,7 @@ impl DiskBase {
         self.note_added(count as u64)
     }
 
-    // Opens the games file for additions, where it is not. The base has to be as it was.
+    // Opens the games file for additions, unless it is open already. The base has to be as it was.
     fn open_adder(&mut self, system: &HostRuntime) -> Result<(), Trouble> {
         self.look(system)?;
         if self.adder.is_some() {
@@ -442,7 +442,8 @@ impl DiskBase {
         }
     }
 
-    // Gives a new file the owner, the group and the mode of the current one. Where it has narrower rights that is said.
+    // Gives a new file the owner, the group and the mode of the current one. If the new file has narrower rights, a
+    // message tells it.
     fn like_current(&self, system: &HostRuntime, kind: Kind, file: &File) -> io::Result<()> {
         if give_rights(file, &self.files.of(kind).file)? == Rights::Narrower {
             say_narrower(system, &self.places, kind.current());
@@ -450,7 +451,8 @@ impl DiskBase {
         Ok(())
     }
 
-    // Hands the records that were added on to the disk, and the folder of the games file where it is not that of the index.
+    // Hands the records that were added on to the disk, and the folder of the games file unless it is that of the
+    // index.
     fn hand_on_added(&self, system: &HostRuntime) -> Result<(), Trouble> {
         if let Some(adder) = &self.adder {
             adder.sync_all().on(Kind::Games.current())?;

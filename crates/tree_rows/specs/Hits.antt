@@ -13,8 +13,8 @@ abbrev pub rating_from : Colour → ℕ → ℕ → ℕ
 rating_from White white black = white
 rating_from Black white black = black
 
--- A game that meets the position with this side to move: the move after its first match, or none at its end, its result, the ratings
--- of the side to move and of the other side, and its year, 0 where it is not known.
+-- A game that meets the position with this side to move: the move after its first match, or none at its end, and its
+-- result. It also has the ratings of the side to move and of the other side, and its year, 0 if it is not known.
 abbrev pub hit_from : Option Move → Colour → Outcome → ℕ → ℕ → ℕ → GameHit
 hit_from next side outcome white black year =
     record {

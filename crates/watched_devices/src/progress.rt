@@ -160,7 +160,8 @@ impl<'r> ProgressLine<'r> {
         });
     }
 
-    /// A new games file is begun. Where games share records, and a compaction makes it more than twice the old one, that is said.
+    /// Begins a new games file. If games share records, and a compaction makes it more than twice the old one, a
+    /// message tells it.
     pub fn begun(&self) {
         let before = self.progress.get();
         let work = match before.work {
