@@ -9,7 +9,8 @@
 - The wrong bodies that docs/MAINTAINING.md names are there, and all are within its numbers.
 - Of each crate that crates.txt gives a crate, some file of it names something.
 - docs/DESIGN.md has a row for each crate, on a floor above all that it names, as docs/house.py finds.
-- No page has more long sentences, long lines and turns of phrase than docs/prose.py leaves it, and all pages have no more lines than it says."""
+- No page and no comment of a source file has more long sentences, long lines and turns of phrase than docs/prose.py leaves it, and all pages
+  have no more lines than it says."""
 import collections
 import re
 import sys

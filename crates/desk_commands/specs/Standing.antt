@@ -34,7 +34,7 @@ pub record DeskHolding : Type 0 where
 abbrev pub with_seat : Holding → Seat → Holding
 with_seat holding seat = record holding { seat = seat }
 
--- It stands for this desk, where the files are told: whoever sits in it, for what he sees.
+-- It stands for this desk, if the files are told: whichever client sits in it, for what that client sees.
 pub record DeskStands (held : DeskHolding) (seen : Seen) (desk : Desk) : Type 0 where
   pub seats : held.seats ≡ desk.seats
   pub clients : held.clients ≡ desk.clients

@@ -35,9 +35,9 @@ use shell_state::Halt;
 use std::alloc::Global;
 use tree_live::TreeView;
 
-/// Does what a line says for the client who says it, brings it to the others, and writes its text, each line of it behind his tag where there are
-/// tags; and keeps the views of all slots right. Of a line without a body nothing of `body` is read, nor of one that no client says, or one who
-/// has ended.
+/// Does what a line says for the client that says it, brings it to the others, and writes its text. If clients have
+/// tags, each line of the text stands behind the client's tag. The views of all slots stay right. Nothing of `body` is
+/// read for a line without a body, nor for one that no client says, or one that has ended.
 pub fn serve<F: Files, B: Source, K: Sink>(
     alloc: Global,
     desk: &mut Desk,

@@ -120,8 +120,8 @@ fn take_in<F: Files, B: Source, K: Sink>(
     Err(Halt::Device(Stop::Memory))
 }
 
-// Takes the next item of the body in, which has this number, and puts its line on the page, and says whether its game was added; none where
-// there is no more item.
+// Takes the next item of the body in, which has this number, and puts its line on the page. Answers whether its game
+// was added, or `None` if there is no more item.
 fn take_next<F: Files, B: Source, K: Sink>(
     alloc: Global,
     machine: &mut Machine,

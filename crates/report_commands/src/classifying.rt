@@ -198,7 +198,7 @@ fn set_codes(base: &mut Base, codes: &[Option<u16>])
     }
 }
 
-// Gives game `i` a code, where there is one.
+// Gives game `i` a code, if there is one.
 fn set_code(base: &mut Base, i: u32, code: Option<u16>)
     requires there { i < length base.old.entries }
     requires small { IsCode code }

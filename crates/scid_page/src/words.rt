@@ -41,10 +41,16 @@ struct Said<'a> {
     existing: Option<Existing>,
 }
 
-/// What the words ask for, where they are the name of a base and then that of a folder, and among them each at most once `--depth` and a
-/// number up to 40, `--least` and a number from 1 on, `--only` and the items of a search of heads, which are not read here, `--from` with a
-/// board and a side, `--side` and `white` or `black`, and `--names` and the name of a file, and
-/// `--replace`.
+/// What the words ask for. They are the name of a base and then that of a folder, and among them these, each at most
+/// once:
+///
+/// - `--depth` and a number up to 40;
+/// - `--least` and a number from 1 on;
+/// - `--only` and the items of a search of heads, which are not read here;
+/// - `--from` with a board and a side;
+/// - `--side` and `white` or `black`;
+/// - `--names` and the name of a file;
+/// - `--replace`.
 pub fn words_read(words: &[String]) -> Option<Wanted<'_>> {
     let Some(said) = said_by(words) else {
         return None;

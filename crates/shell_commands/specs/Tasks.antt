@@ -31,7 +31,7 @@ use Rattle.text_commands.specs.Showing.{info_work, quit_work}
 use Rattle.view_commands.specs.Views.{all_slots, unwatch_work, view_work, watch_work}
 use Rattle.view_commands.specs.declared.window.Window.{Window}
 
--- What a command does with its body, where it has one, for a user with these slots of his own.
+-- What a command does with its body, if it has one, for a user with these slots.
 abbrev pub command_work : Window → Command → List ℕ → Work
 command_work w Nothing body = quiet (λ s. s) (λ s. [])
 command_work w (Find board side) body = find_work board side

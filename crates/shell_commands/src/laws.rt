@@ -34,8 +34,8 @@ pub fn filters_fit()
     ensures script { (w : Window) (created : Bool) (slots : List Slot) (base : Base) (done : List Task) → HasFilters (after_all (tasks w) (begin created slots base) done) }
 {}
 
-/// A law: what the slots show stays as it is, but for a task that watches one, or watches it no more, and a slot that is not the user's own
-/// stays behind each of his tasks. None comes or goes.
+/// A law: what the slots show stays as it is, but for a task that watches one, or watches it no more. A slot that is
+/// not the user's own stays behind each of the user's tasks. None comes or goes.
 pub fn slots_stay()
     ensures stay { (w : Window) (s : State) (t : Task) → ((k : ℕ) (board : Men) (side : Colour) → t.order ≡ Ok (Watch k board side) → ⊥) → ((k : ℕ) → t.order ≡ Ok (Unwatch k) → ⊥) → ((tasks w).after s t).slots ≡ s.slots }
     ensures others { (w : Window) (s : State) (t : Task) (i : ℕ) → is_own w i ≡ false → slot_at ((tasks w).after s t).slots i ≡ slot_at s.slots i }

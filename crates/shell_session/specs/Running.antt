@@ -68,9 +68,9 @@ Interrupts InputTooLong = ⊤
 Interrupts Memory = ⊤
 Interrupts _ = ⊥
 
--- What each part of the run keeps to, which ended with this status or with none: without one the machine is sound; where its lines may not
--- change the files, none is changed; no base is chosen; no count of faults fell; the status ends a run, and has its cause, and tells of a
--- script that is too long only where more than the limit was read.
+-- What each part of the run keeps to, which ended with this status or with none. Without one the machine is sound. No
+-- file is changed if its lines may change none. No base is chosen, and no count of faults fell. The status ends a run,
+-- and has its cause. It tells of a script that is too long only if more than the limit was read.
 pub record Kept (writes : Bool) (held' : DeskHolding) (seen seen' : Seen) (old new : Counts) (budget budget' : ℕ) (ended : Option Status) : Type 0 where
   pub sound : MatchOption ended (DeskSound held' seen') (λ status. ⊤)
   pub unchanged : writes ≡ false → seen' ≡ seen

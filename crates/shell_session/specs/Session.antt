@@ -69,10 +69,11 @@ opening_text games mended = codes "base " ++ decimal games ++ codes " games " ++
 
 -- ---- the run of the script
 
--- The whole script was run: its text is written, and the input was read to its end or to the line of the `quit` by which its last client
--- ends, and at most so many bytes further. The files carry the base that the last `save` or `compact` left, or the opened one, and mean it
--- where no edit came after. Each view of a slot that shows a tree has the rows of the games that are in then for the slot's owner, and one of
--- a slot that was never watched is as before; none was told more changes than the tasks tell it.
+-- The whole script was run: its text is written, and the input was read to its end or to the line of the `quit` by
+-- which its last client ends, and at most so many bytes further. The files carry the base that the last `save` or
+-- `compact` left, or the opened one, and mean it if no edit came after. Each view of a slot that shows a tree has the
+-- rows of the games that are in then for the slot's owner. One of a slot that was never watched is as before. None was
+-- told more changes than the tasks tell it.
 pub record RanAll (d : Desk) (script : List ℕ) (told : Option (List ℕ)) (told' : Option (List ℕ)) (later : Option (List ℕ)) (around' : Around) : Type 0 where
   pub written : told' ≡ adds told (run desks d (script_of d.clients.tagged script))
   pub within : script_len d.clients.tagged script ≤ longest_script
@@ -85,8 +86,8 @@ pub record RanAll (d : Desk) (script : List ℕ) (told : Option (List ℕ)) (tol
       AreBeside (record around' { most = λ k. around'.most k + summed (λ d next. line_told d next k) d (script_of d.clients.tagged script) })
       (after_all desks d (script_of d.clients.tagged script))
 
--- What is known of the line that a status breaks off: the files fail only at one that uses them, of which nothing was written then, unless it is
--- one that writes while it works; and no told record was changed.
+-- What is known of the line that a status breaks off. The files fail only at a line that uses them. Nothing of it was
+-- written then, unless it writes while it works. No told record was changed.
 abbrev pub BrokenBy : Status → Desk → Tagged → Option (List ℕ) → Option (List ℕ) → Type 0
 BrokenBy FilesFault d next told told' =
     IsTrue (order_work all_slots (effective d.clients next.client next.task.order) next.task.body).files × (writes_early next.task.order ≡ false → told' ≡ told)
@@ -178,7 +179,8 @@ Asks given old new =
 
 -- ---- causes, for every files, input and output
 
--- A device's status comes only where that device counted a fault, and a changed record's only with another signature than the kept one.
+-- If a status is that of a device, the device counted a fault; if it is that of a changed record, the record has
+-- another signature than the kept one.
 abbrev pub WhyStatus : Status → Counts → Counts → Type 0
 WhyStatus ReadFault old new = Rose old.input new.input
 WhyStatus WriteFault old new = Rose old.output new.output

@@ -18,11 +18,16 @@ use tree_live::TreeView;
 
 /// Runs the script of the input over the base that the words name, and writes its text.
 ///
-/// The words are `[--create] [--strict] [--desk] BASE`, each option at most once, in any order. The text is a line `base G games M mended`,
-/// and then the texts of the script's commands, one a line, up to `quit` or the end of the input. With `--desk` four clients say the script,
-/// whose lines begin `@0 `, `@1 `, `@2 ` or `@3 `: each has filters of his own and the two slots from twice his number on, and his texts stand
-/// behind his tag; `quit` ends its client alone, and the script ends with the last of them. The slots of the script are the views, where they
-/// stand; a view is told the rows of the tree that its slot shows, and dropped where the slot shows none any more.
+/// The words are `[--create] [--strict] [--desk] BASE`, each option at most once, in any order. The text is a line
+/// `base G games M mended`, and then the texts of the script's commands, one a line, up to `quit` or the end of the
+/// input.
+///
+/// With `--desk` four clients say the script, whose lines begin `@0 `, `@1 `, `@2 ` or `@3 `. Each client has its own
+/// filters and the two slots from twice its number on, and its texts stand behind its tag. `quit` ends its client
+/// alone, and the script ends with the last of them.
+///
+/// The places of `views` are the slots of the script, of which those with a view can show a tree. A view is told the
+/// rows of the tree that its slot shows, and dropped when the slot shows none any more.
 pub fn session<F: Files, S: Source, K: Sink>(
     alloc: Global,
     words: &[String],

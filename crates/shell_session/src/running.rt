@@ -272,7 +272,7 @@ fn broken(place: &Place, halt: Halt) -> Status
     }
 }
 
-// Runs the last line of a script, which no line feed ends, and then its end where it is not `quit`.
+// Runs the last line of a script, which no line feed ends, and then its end unless it is `quit`.
 fn run_last<F: Files, K: Sink>(
     alloc: Global,
     desk: &mut Desk,

@@ -38,13 +38,15 @@ pub record Beside (kept : Kept) (seen : Seen) (unsaved : Bool) (carried : Carrie
 abbrev pub AreEmpty : Seen → Type 0
 AreEmpty seen = (seen.index ≡ Some []) × (seen.names ≡ Some [])
 
--- Where there is a base that they carry; those of a base that was created and neither saved nor compacted are empty.
+-- The files beside a base that is open: if they carry a base, they stand beside it. Those of a base that was created
+-- and neither saved nor compacted are empty.
 abbrev pub AreBeside : Kept → Seen → Bool → Option Carried → Type 0
 AreBeside kept seen unsaved (Some carried) = Beside kept seen unsaved carried
 AreBeside kept seen unsaved None = AreEmpty seen
 
--- The files after the commands of a script: they carry the base that was opened, or saved or compacted last, and mean it where no edit came
--- after; one that was saved or compacted opens again then without a fault, however strict the opening is. Those of a base that was created and neither saved nor compacted are empty.
+-- The files after the commands of a script. They carry the base that was opened, or saved or compacted last, and mean
+-- it if no edit came after. One that was saved or compacted opens again then without a fault, however strict the
+-- opening is. Those of a base that was created and neither saved nor compacted are empty.
 abbrev pub AreLeft : Seen → Option Carried → Bool → Type 0
 AreLeft seen (Some carried) unsaved =
     CarryIt seen carried.base

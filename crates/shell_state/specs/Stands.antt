@@ -40,7 +40,7 @@ pub record Holding : Type 0 where
 abbrev pub index_of : List GameTree → ℕ → Index
 index_of games depth = record { depth = depth; rows = map (row_of depth) (map Some games) }
 
--- Those where there is no index, and no slot shows a tree.
+-- The tables without an index, when no slot shows a tree.
 abbrev pub no_tables : Tables
 no_tables = record { index = None; hits = replicate 8 None }
 
@@ -52,7 +52,7 @@ tables_by depth slots games = record { index = option_map (index_of (map (λ hel
 abbrev pub depth_of : Option Index → Option ℕ
 depth_of index = option_map (λ (x : Index). x.depth) index
 
--- The machine stands for this state, where the files are told: for none where they are not.
+-- The machine stands for this state, and the files are told.
 pub record Stands (holding : Holding) (seen : Seen) (s : State) : Type 0 where
   pub games : List ℕ
   pub told : seen.games ≡ Some games

@@ -19,7 +19,7 @@ pub record Look : Type 0 where
   pub head : Head
   pub places : List Place
 
--- The places that an index to this depth has of a game; there are none where there is no index.
+-- The places that an index to this depth has of a game, and none without an index.
 abbrev pub indexed_places : Option ℕ → GameTree → List Place
 indexed_places None game = []
 indexed_places (Some depth) game = places_of depth game

@@ -37,7 +37,7 @@ pub struct Machine {
     pub index: Option<PosIndex>,
     /// The positions whose trees its user watches, with their hits.
     pub slots: Slots,
-    /// What its user has of his own.
+    /// What its user has alone.
     pub seat: Seat,
     /// A record is read into it: as long as the longest one may be.
     pub block: Vec<u8>,
@@ -89,7 +89,7 @@ impl Machine {
         let _header = self.base.header();
     }
 
-    /// The game of a number, where there is one.
+    /// The game of a number, if there is one.
     pub fn game_at(&self, number: u64) -> Option<u32>
         ensures at { MatchOption result (length self.now.kept.entries ≤ number) (λ i. (i ≡ number) × (i < length self.now.kept.entries)) }
     {

@@ -163,7 +163,7 @@ fn push_facts(text: &mut Vec<u8>, head: &HeadRef<'_>) -> Result<(), AllocError>
     text.extend_from_slice(b" ")
 }
 
-// Puts an opening code behind the text, or a dash where there is none.
+// Puts an opening code behind the text, or a dash if there is none.
 fn push_eco(text: &mut Vec<u8>, eco: u16) -> Result<(), AllocError>
     requires eco { eco ≤ 65500 }
     ensures { OnOk result (text.new.items ≡ text.old.items ++ listed_eco eco) }

@@ -21,14 +21,15 @@ use Rattle.tree_rows.specs.declared.hit.GameHit.{GameHit}
 use Rattle.tree_rows.specs.declared.row.Row.{Row}
 use Rattle.view_commands.specs.declared.window.Window.{Window}
 
--- Which of the slots are a user's own: so many from a number on, which he counts from 0. The user of a script that has no other has all eight.
+-- Which of the slots are a user's own: so many from a number on, which the user counts from 0. The user of a script
+-- that has no other has all eight.
 abbrev pub all_slots : Window
 all_slots = record { first = 0; count = 8 }
 
 abbrev pub is_own : Window → ℕ → Bool
 is_own w i = nat_le w.first i && nat_lt i (w.first + w.count)
 
--- What his slot k shows; past his last one there is none that has a view.
+-- What slot k of a user shows; past the user's last one there is none that has a view.
 abbrev pub own_slot : Window → State → ℕ → Slot
 own_slot w s k = if nat_lt k w.count then slot_at s.slots (w.first + k) else empty
 

@@ -39,7 +39,8 @@ pub fn view(
     }
 }
 
-/// unwatch K of a user: gives its line, which is not written yet. Views of slots that are not his own are as before.
+/// unwatch K of a user: gives its line, which is not written yet. Views of slots that are not the user's own are as
+/// before.
 pub fn unwatch(
     alloc: Global,
     machine: &mut Machine,
@@ -64,7 +65,7 @@ pub fn unwatch(
     }
 }
 
-/// The slot that a user names by a number; past his last one the ninth, which none shows.
+/// The slot that a user names by a number. A number past the user's last one names the ninth, which shows no tree.
 pub(crate) fn slot_of(window: Window, number: u64) -> u8
     requires room { window.first + window.count ≤ 8 }
     ensures slot { number < window.count → result ≡ window.first + number }
