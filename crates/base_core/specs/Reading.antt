@@ -1,4 +1,4 @@
--- What is read of a game when a base is opened, as the functions of this crate go through it.
+-- What is read of a game when a base is opened, as the functions of this crate go through it (this project's own).
 use Rattle.std.specs.Prelude.{◌≡◌, ◌≤◌, ◌+◌, ◌⊎◌, ℕ, Bool, false, IsTrue, List, length, slice_get, Option, Some, None, is_some, count_by, Ok}
 use Rattle.base_files.specs.Extents.{record_in}
 use Rattle.game_tree.specs.Game.{GameTree}

@@ -1,4 +1,4 @@
--- How men move over the board: files, ranks and steps.
+-- How men move over the board: files, ranks and steps (FIDE Laws, Article 2.4 and 3.2 to 3.8).
 use Rattle.std.specs.Prelude.{◌≡◌, ℕ, zero, suc, ◌+◌, ◌-◌, ◌*◌, ◌/◌, ◌%◌, ◌&&◌, nat_lt, nat_le, if◌then◌else◌, List, [], ◌∷◌, ◌++◌, Option, Some, None}
 use Rattle.std.specs.Option.{option_and_then, option_map}
 use Rattle.cell_core.specs.declared.man.Colour.{Colour}

@@ -1,4 +1,5 @@
--- What a position is, and the rules that every position keeps.
+-- What a position is, and the rules that every position keeps (FIDE Laws, Article 2.2, 2.3, 3.7.3.3
+-- and 3.9.2; the others are this project's own).
 use Rattle.std.specs.Prelude.{◌≡◌, ℕ, ◌+◌, ◌/◌, ◌%◌, ◌^◌, ◌<◌, ◌≤◌, ◌==◌, ◌&&◌, ◌++◌, Bool, if◌then◌else◌, IsTrue, [], ◌∷◌, Option, Some, None, is_none, length, replicate, count_by, map}
 use Rattle.std.specs.List.{position_or_len}
 use Rattle.cell_core.specs.declared.man.Colour.{Colour}

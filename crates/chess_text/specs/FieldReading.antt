@@ -1,4 +1,5 @@
--- What the readers of the fields answer: functions on lists, which the grammar of the fields is proved to agree with.
+-- What the readers of the fields answer (PGN standard, 16.1.3): functions on lists, which the grammar of the fields is
+-- proved to agree with.
 use Rattle.std.specs.Prelude.{◌≡◌, ℕ, ◌+◌, ◌-◌, ◌*◌, ◌==◌, ◌&&◌, not, nat_lt, nat_le, Bool, true, cond, List, [], ◌∷◌, Option, Some, None, option_and_then, ok_or, Result, Ok, Err, MatchResult, drop, length}
 use Rattle.std.specs.List.{list_all, prefix_len, take_while}
 use Rattle.std.specs.Char.{is_ascii_digit}

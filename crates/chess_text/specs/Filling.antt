@@ -1,4 +1,4 @@
--- What the reader of a placement answers.
+-- What the reader of a placement answers (PGN standard, 16.1.3.1).
 use Rattle.std.specs.Prelude.{ℕ, ◌+◌, ◌-◌, ◌*◌, ◌==◌, ◌&&◌, List, [], ◌∷◌, Option, Some, None, cond, nat_lt, nat_le, option_and_then, slice_set, replicate}
 use Rattle.cell_core.specs.declared.man.Man.{Man}
 use Rattle.cell_core.specs.Board.{Men}

@@ -1,4 +1,4 @@
--- What the functions of this crate keep on their way: names by their places.
+-- What the functions of this crate keep on their way: names by their places (this project's own).
 use Rattle.std.specs.Prelude.{ℕ, zero, suc, ◌+◌, ◌==◌, nat_lt, Bool, ◌&&◌, ◌||◌, if◌then◌else◌, List, [], ◌∷◌, ◌++◌, Option, None, Some, map, filter, count_by, codes, slice_index_or}
 use Rattle.std.specs.Fmt.{decimal}
 use Rattle.std.specs.List.{filter_map, flat_map, fold, list_any, position_or_len, sum_by}

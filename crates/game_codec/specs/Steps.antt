@@ -1,4 +1,4 @@
--- The faults of a reading.
+-- What was read, or its fault (this project's own).
 use Rattle.std.specs.Prelude.{Result, Ok, Err}
 
 -- What was read, or the fault told in another way.

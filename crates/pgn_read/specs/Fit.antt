@@ -1,4 +1,5 @@
--- What a base takes: a game whose moves are legal, with a head that is within its bounds and settled.
+-- What a base takes: a game whose moves are legal, with a head that is within its bounds and settled (this project's
+-- own).
 use Rattle.std.specs.Prelude.{⊤}
 use Rattle.game_tree.specs.declared.head.Head.{Head}
 use Rattle.game_tree.specs.Game.{GameTree}

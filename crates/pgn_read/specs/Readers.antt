@@ -1,4 +1,4 @@
--- A reader of the items of a text, as its contracts see it.
+-- A reader of the items of a text, as its contracts see it (this project's own).
 use Rattle.std.specs.Prelude.{◌≡◌, ◌⊎◌, ℕ, Bool, false, List, [], ◌∷◌, ◌++◌, Option, None, Some, IfSome, option_map}
 use Rattle.pgn_read.specs.declared.error.PgnError.{PgnError}
 use Rattle.pgn_read.specs.declared.item.Item.{Item}

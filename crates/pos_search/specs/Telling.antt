@@ -1,4 +1,4 @@
--- What the functions of this crate keep of what an index tells.
+-- What the functions of this crate keep of what an index tells (this project's own).
 use Rattle.std.specs.Prelude.{◌≡◌, ℕ, if◌then◌else◌, All, IfSome, List, [], Option, Some}
 use Rattle.cell_core.specs.Packed.{packed_of}
 use Rattle.cell_core.specs.declared.step.Move.{Move}

@@ -1,4 +1,5 @@
--- The body of a command: the bytes of the lines behind its own, up to one that is the word. Only the reader's contracts cite it.
+-- The body of a command: the bytes of the lines behind its own, up to one that is the word
+-- (this project's own). Only the reader's contracts cite it.
 use Rattle.std.specs.Prelude.{ℕ, suc, ◌==◌, Bool, ◌&&◌, if◌then◌else◌, List, [], ◌∷◌, Option, None, option_map}
 use Rattle.std.specs.List.{position}
 use Rattle.std.specs.Str.{bytes_eq}

@@ -1,4 +1,5 @@
--- A script byte by byte, as a reader meets it: what these bytes say behind a line so far. It says what the lines of Script do, by a law.
+-- A script byte by byte, as a reader meets it: what these bytes say behind a line so far (this project's own). It says
+-- what the lines of Script do, by a law.
 use Rattle.std.specs.Prelude.{ℕ, zero, suc, ◌+◌, ◌==◌, true, if◌then◌else◌, List, [], ◌∷◌, ◌++◌, length, Option, Some, None}
 use Rattle.script_text.specs.Tasks.{body_word}
 use Rattle.script_lines.specs.Bodies.{Body, body_of}
