@@ -11,7 +11,7 @@ use Rattle.base_core.specs.declared.fault.What.TheVariants as what
 use Rattle.base_core.specs.Base.{Base}
 use Rattle.base_core.specs.Represents.{Kept, Represents, extents_of, sigs_of}
 
--- The edit was done: where what was kept stands for a base beside a games file, what is kept now stands for the base after the edit beside it.
+-- The edit was done: if what was kept stands for a base beside a games file, what is kept now stands for the base after the edit beside it.
 abbrev pub Does : (Base → Base) → Kept → Kept → Type 0
 Does after old new = (games : List ℕ) (base : Base) → Represents old games base → Represents new games (after base)
 
@@ -43,7 +43,7 @@ full_names names =
     else if nat_lt (limit_of Round) (length names.rounds) then Some what.Rounds
     else None
 
--- The first, or else the games file, where it passes its own.
+-- The first, or else the games file, if it passes its own.
 abbrev pub or_file : Option What → ℕ → Option What
 or_file (Some full) end = Some full
 or_file None end = if nat_lt longest_file end then Some what.File else None
@@ -52,7 +52,7 @@ or_file None end = if nat_lt longest_file end then Some what.File else None
 unfoldable pub first_full : ℕ → NameLists → ℕ → Option What
 first_full games names end = if nat_lt most_games games then Some what.Games else or_file (full_names names) end
 
--- A record of so many bytes can be placed, where that is what would be full.
+-- A record of so many bytes can be placed: it is not too long, and nothing would be full.
 pub record CanPlace (len : ℕ) (full : Option What) : Type 0 where
   pub short : len ≤ longest
   pub room : full ≡ None

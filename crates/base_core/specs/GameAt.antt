@@ -68,7 +68,7 @@ SaysWhy kept told i buf error.Failed = ⊤
 SaysWhy kept told i buf error.Memory = ⊤
 SaysWhy kept told i buf _ = ⊥
 
--- The fact, where the error tells a change.
+-- The fact, if the error tells a change.
 abbrev pub IfChanged : EditError → Type 0 → Type 0
 IfChanged (error.Changed game sig found) Fact = Fact
 IfChanged _ Fact = ⊤

@@ -259,7 +259,7 @@ impl From<NamesError> for OpenError {
     }
 }
 
-// Why a game is not given that has this signature, where its record is not read.
+// Why a game is not given that has this signature, if its record is not read.
 pub(crate) fn unread_error(game: u32, kept: Sig, error: DecodeError) -> EditError
     ensures error { result ≡ unread_error game kept error }
 {

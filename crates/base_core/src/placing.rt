@@ -200,7 +200,7 @@ impl Base {
         ensures unsaved { OnOk result (self.new.unsaved ≡ true) }
         ensures no_game { IsErrOf result (EditError.NoGame i) ↔ (length self.old.entries ≤ i) }
         ensures why { IfErr result (WhyNotTagged self.old (F.seen files.old).games i edit.now buf.new) }
-        // Where the files tell the records of a base, no game has changed.
+        // If the files tell the records of a base, no game has changed.
         ensures same { IfErr result (λ error. IfChanged error (IfSome (F.seen files.old).games (λ games. (base : PlainBase) → Represents self.old games base → ⊥))) }
         ensures unchanged { OnErr result (self.new ≡ self.old) }
         // Each name keeps its id.

@@ -44,7 +44,7 @@ pub record AppendedInPart (old new : Seen) : Type 0 where
   pub grew : Grew old.games new.games
   pub rest : new ≡ record old { games = new.games }
 
--- After a new games file was begun: it is empty, and told where the current one is.
+-- After a new games file was begun: it is empty, and told if the current one is.
 abbrev pub begun : Seen → Seen
 begun seen = record seen { fresh = told_instead [] seen.games; added = 0 }
 

@@ -44,7 +44,7 @@ changing_shelf index names games swaps = record (new_shelf index names games [])
 abbrev pub changed : Shelf → Shelf
 changed shelf = record shelf { games = games_before shelf.calls.made shelf.swaps shelf.games }
 
--- What files in memory show: all of their contents, but none where the games file changes by itself.
+-- What files in memory show: all of their contents, but none if the games file changes by itself.
 abbrev pub seen_of : Shelf → Seen
 seen_of shelf = record {
   index = told_of shelf.swaps shelf.index;

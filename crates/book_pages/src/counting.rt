@@ -134,7 +134,7 @@ fn place_of(boards: &IndexSet<PackedBoard>, place: &Position) -> Option<usize>
     boards.get_index_of(&pack(place.board(), place.side()))
 }
 
-// Counts a game on a board, if it stands on one, where it was not counted there before.
+// Counts a game on a board, if it stands on one and was not counted there before.
 fn meet(
     tallies: &mut [Tally],
     here: Option<usize>,

@@ -26,11 +26,11 @@ pub record Offset : Type 0 where
 abbrev pub by : ℕ → ℕ → ℕ → ℕ → Offset
 by r l u d = record { right = r; left = l; up = u; down = d }
 
--- A file or a rank that much higher and lower, where it stays from 0 to 7.
+-- A file or a rank that much higher and lower, if it stays from 0 to 7.
 abbrev pub line_at : ℕ → ℕ → ℕ → Option ℕ
 line_at line up down = if nat_le down (line + up) && nat_lt (line + up) (8 + down) then Some (line + up - down) else None
 
--- The square that a step leads to, where it stays on the board.
+-- The square that a step leads to, if it stays on the board.
 unfoldable pub shift : Offset → ℕ → Option ℕ
 shift o s =
     option_and_then (λ file. option_map (square file) (line_at (rank_of s) o.up o.down)) (line_at (file_of s) o.right o.left)

@@ -216,7 +216,7 @@ fn may_castle(p: &Setup, m: &Move, wing: Wing) -> bool
         && is_way_free(&p.board, p.side, wing)
 }
 
-/// Whether it is the null move, where the mover may pass.
+/// Whether it is the null move, and the mover may pass.
 fn is_null(p: &Setup, king: Square, m: &Move) -> bool
     requires king { IsOnlyKing p.now.board p.now.side king }
     ensures { IsTrue result ↔ NullCase p.now m.now }

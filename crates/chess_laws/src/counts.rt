@@ -80,7 +80,7 @@ impl Counts {
         ]
     }
 
-    /// One less of the man on a square, where one stands there that is counted.
+    /// One less of the man on a square, if one stands there that is counted.
     #[inline(always)]
     pub(crate) fn count_out(&mut self, cell: &Option<Man>)
         ensures fewer { self.new ≡ fewer self.old cell.now }
@@ -121,7 +121,7 @@ fn byte(word: u64, shift: u32) -> u8
     ((word >> shift) % 256) as u8
 }
 
-// The word with one man of this kind less, where it has one; kings are not counted.
+// The word with one man of this kind less, if it has one; kings are not counted.
 #[inline(always)]
 fn one_less(word: u64, kind: Kind) -> u64
     ensures { result ≡ less_of word kind }

@@ -55,7 +55,7 @@ pub record FenReads (text : List ℕ) (p : Setup) : Type 0 where
   pub position : p ≡ kept says
   pub sound : Sound p
 
--- A field that says nothing is the first fault, and where it says something the first fault comes after it.
+-- A field that says nothing is the first fault, and if it says something the first fault comes after it.
 abbrev pub FaultFrom : {A : Type 0} → ℕ → (A → Type 0) → FenFault → (A → Type 0) → Type 0
 FaultFrom {A} n Says fault Later = (((x : A) → Says x → ⊥) × (fault ≡ Field n)) ⊎ ((x : A) × Says x × Later x)
 

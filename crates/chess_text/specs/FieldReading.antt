@@ -33,7 +33,7 @@ abbrev pub side_named : List ℕ → Option Colour
 side_named (byte ∷ []) = cond (byte == 119) (Some White) (cond (byte == 98) (Some Black) None)
 side_named _ = None
 
--- The rights with one more, where the letter names one that is not there yet.
+-- The rights with one more, if the letter names one that is not there yet.
 unfoldable pub with_right : Rights → ℕ → Option Rights
 with_right r letter =
     cond (letter == 75 && not r.white_king_side) (Some (record r { white_king_side = true }))

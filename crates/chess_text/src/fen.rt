@@ -42,7 +42,7 @@ fn read(text: &[u8]) -> Result<Position, FenFault>
     }
 }
 
-// The position of what the fields say, where it keeps the rules.
+// The position of what the fields say, if it keeps the rules.
 fn placed(says: &Setup) -> Result<Position, FenFault>
     ensures ok { IfOk result (λ p. p ≡ kept says.now) }
     ensures sound { IfOk result Sound }

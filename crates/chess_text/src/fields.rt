@@ -42,7 +42,7 @@ fn split_word(text: &[u8]) -> (&[u8], &[u8])
     (text, &text[text.len()..])
 }
 
-// The word, or the default where it is empty.
+// The word, or the default if it is empty.
 pub fn or_default<'a>(word: &'a [u8], default: &'a [u8]) -> &'a [u8]
     ensures { result.now ≡ or_word word.now default.now }
 {
@@ -84,7 +84,7 @@ pub fn rights_of(word: &[u8]) -> Option<Rights>
     Some(rights)
 }
 
-// The rights with the one that the letter names, or `None` where it names none or one that is there.
+// The rights with the one that the letter names, or `None` if it names none or one that is there.
 #[tactic(auto, unfolding(crate::specs::FieldReading::with_right))]
 fn add_right(rights: Rights, letter: u8) -> Option<Rights>
     ensures { result ≡ with_right rights letter }

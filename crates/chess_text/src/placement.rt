@@ -19,7 +19,7 @@ pub fn read_board(text: &[u8]) -> Result<Board, FenFault>
     board_of(text).ok_or(FenFault::Field(1))
 }
 
-// The board that the text fills from the eighth rank down, or `None` where it is no placement.
+// The board that the text fills from the eighth rank down, or `None` if it is no placement.
 #[tactic(auto, unfolding(crate::specs::Filling::board_named, crate::specs::Filling::after, crate::specs::Filling::after_man, crate::specs::Filling::after_slash, crate::specs::Filling::after_empty))]
 pub fn board_of(text: &[u8]) -> Option<Board>
     ensures exact { result ≡ board_named text.now }

@@ -99,7 +99,7 @@ fn push_rights(out: &mut Vec<u8>, rights: &Rights) -> Result<(), AllocError>
     Ok(())
 }
 
-// Adds the letter where the right is there.
+// Adds the letter if the right is there.
 fn push_where(out: &mut Vec<u8>, right: bool, letter: u8) -> Result<(), AllocError>
     ensures ok { OnOk result (out.new.items ≡ out.old.items ++ letter_where right letter) }
 {

@@ -105,14 +105,14 @@ impl Seat {
         Ok(())
     }
 
-    /// The filter that is kept under a name, or none where none is.
+    /// The filter that is kept under a name, or none if none is.
     pub fn saved(&self, name: &[u8]) -> Option<&Filter>
         ensures saved { option_copied result ≡ saved_named self.now.saved name.now }
     {
         named(self.parts.saved.as_slice(), name)
     }
 
-    /// Forgets the filter that is kept under a name; `false` where none is.
+    /// Forgets the filter that is kept under a name; `false` if none is.
     pub fn forget(&mut self, name: &[u8]) -> bool
         ensures forgotten { result ≡ is_kept self.old.saved name.now }
         ensures seat { self.new ≡ record self.old { saved = dropped_in self.old.saved name.now } }

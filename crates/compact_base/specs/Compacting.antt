@@ -51,7 +51,7 @@ numbers_from next (false ∷ deleted) = Some next ∷ numbers_from (next + 1) de
 abbrev pub numbering : List Entry → Numbering
 numbering entries = record { to = numbers_from 0 (map (λ e. e.deleted) entries); kept = length (staying entries) }
 
--- Where the files tell the base, they now hold it after a compaction.
+-- If the files tell the base, they now hold it after a compaction.
 abbrev pub Compacts : Kept → Kept → Option (List ℕ) → Option (List ℕ) → Type 0
 Compacts old new told now = IfSome told (λ games. IfSome now (λ fresh. (base : Base) → Represents old games base → Represents new fresh (compacted base)))
 
@@ -96,7 +96,7 @@ WhyNotCompacted kept told buf error.Failed = new_end kept.entries ≤ longest_fi
 WhyNotCompacted kept told buf (error.Changed game sig found) = (new_end kept.entries ≤ longest_file) × IsChanged kept told game buf game sig found
 WhyNotCompacted kept told buf error.Memory = ⊤
 
--- The fact, where the error tells a change.
+-- The fact, if the error tells a change.
 abbrev pub IfChanged : CompactError → Type 0 → Type 0
 IfChanged (error.Changed game sig found) Fact = Fact
 IfChanged _ Fact = ⊤

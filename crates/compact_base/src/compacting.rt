@@ -48,7 +48,7 @@ pub fn compact<F: Files>(
     ensures saved { OnOk result (base.new.unsaved ≡ false) }
     ensures room { OnOk result (new_end base.old.entries ≤ longest_file) }
     ensures why { IfErr result (WhyNotCompacted base.old (F.seen files.old).games buf.new) }
-    // Where the files tell the records of a base, no game has changed.
+    // If the files tell the records of a base, no game has changed.
     ensures same { IfErr result (λ error. IfChanged error (IfSome (F.seen files.old).games (λ games. (plain : PlainBase) → Represents base.old games plain → ⊥))) }
     ensures unchanged { OnErr result (base.new ≡ base.old) }
     // Of the files the new games file alone may have changed.

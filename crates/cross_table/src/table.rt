@@ -49,7 +49,7 @@ impl Table {
 
 /// The crosstable of an event in a base: of the games that are not deleted, have this event name and two names that differ.
 ///
-/// It is refused where more than 200 names play, and where memory was.
+/// It is refused if more than 200 names play, and for want of memory.
 pub fn cross<G: Games>(alloc: Global, games: &G, event: &[u8]) -> Result<Table, CrossError>
     ensures table { IfOk result (λ table. table ≡ crosstable event.now (G.heads games.now)) }
     ensures few { IfOk result (λ _. players event.now (G.heads games.now) ≤ 200) }

@@ -54,7 +54,7 @@ fn write_to<K: Sink>(
     }
 }
 
-// Says that no client says a line, where it says something.
+// Says that no client says a line, if it says something.
 pub(crate) fn say_nobody<K: Sink>(alloc: Global, out: &mut K, order: &Order) -> Result<(), Halt>
     ensures written { OnOk result (K.taken out.new ≡ adds (K.taken out.old) (unless_nothing (codes "no client") order.now)) }
     ensures halted { Halted [] (unless_nothing (codes "no client") order.now) (K.taken out.old) (K.taken out.new) }

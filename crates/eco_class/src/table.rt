@@ -93,7 +93,7 @@ impl EcoTable {
         self.lines.len() as u32
     }
 
-    /// The code of the line that ends on this board with this side to move, or `None` where none does.
+    /// The code of the line that ends on this board with this side to move, or `None` if none does.
     pub fn code_at(&self, p: &PackedBoard) -> Option<u16>
         ensures code { result ≡ code_at self.now (men_of p.now.cells) p.now.side }
         ensures bounds { IfSome result (λ code. (1 ≤ code) × (code ≤ 65500)) }
@@ -215,7 +215,7 @@ impl EcoTable {
         self.lines.get(key).copied()
     }
 
-    // Whether as many men are left as at the end of some line. Where they are not, none of the lines can follow.
+    // Whether as many men are left as at the end of some line. If they are not, none of the lines can follow.
     fn can_follow(&self, p: &Position) -> bool
         ensures over { OnFalse result (All (λ line. men_in p.now.board < men_in line.board) self.now) }
     {

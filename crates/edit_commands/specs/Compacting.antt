@@ -16,7 +16,7 @@ use Rattle.shell_state.specs.Work.{Work, writing}
 use Rattle.shell_state.specs.Work.Price.{by_looks}
 use Rattle.shell_state.specs.declared.refusing.Refusal.TheVariants.{Full}
 
--- The new number of each game, or none where it is deleted.
+-- The new number of each game, or none if it is deleted.
 abbrev pub numbers_of : Base → List (Option ℕ)
 numbers_of base = numbers_from 0 (map (λ held. held.head.deleted) base.games)
 

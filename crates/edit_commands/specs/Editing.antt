@@ -15,7 +15,7 @@ use Rattle.shell_state.specs.State.{State, with_base}
 use Rattle.shell_state.specs.Work.{Work, writing, quiet}
 use Rattle.shell_state.specs.Work.Price.{by_looks}
 
--- An edit of a game, where it is there, its line, and the command.
+-- An edit of a game, if it is there, its line, and the command.
 abbrev pub edit_work : (Base → Base) → List ℕ → ℕ → Work
 edit_work edit words game =
     quiet (λ s. if is_some (slice_get s.shared.base.games game) then with_base s (edit s.shared.base) else s)

@@ -63,7 +63,7 @@ fn save_files<F: Files>(alloc: Global, machine: &mut Machine, files: &mut F) -> 
     Ok(())
 }
 
-// How the command ends where the base is not saved.
+// How the command ends if the base is not saved.
 fn unsaved_halt(error: SaveError) -> Halt
     ensures halt { result ≡ unsaved_halt error }
 {

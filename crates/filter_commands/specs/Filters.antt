@@ -10,7 +10,7 @@ use Rattle.shell_state.specs.Work.{Work, seated}
 abbrev pub filtering : (List (Option ℕ) → List (Option ℕ)) → Work
 filtering change = seated (λ seat. record seat { filter = change seat.filter }) (λ seat. filter_line (change seat.filter))
 
--- keep NAME, where a filter of this name is kept or fewer than eight are kept.
+-- keep NAME, if a filter of this name is kept or fewer than eight are kept.
 abbrev pub keep_line : List SavedFilter → List ℕ → List ℕ
 keep_line saved name = if can_keep saved name then name_line (codes "kept ") name else line_of (codes "error: full filters")
 

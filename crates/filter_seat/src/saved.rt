@@ -103,7 +103,7 @@ fn put_one_at_start(kept: &mut SavedFilter, i: u32)
     to_start(&mut kept.plies, i);
 }
 
-// Puts a game at its start where the filter has it.
+// Puts a game at its start if the filter has it.
 fn to_start(filter: &mut Filter, i: u32)
     requires there { i < length filter.old }
     ensures put { filter.new ≡ to_start i filter.old }

@@ -44,7 +44,7 @@ tags_at (suc most) bytes = do
     | Some tag ↦ tags_at most tag.1 >>= λ tags. Ok (tag.0 ∷ tags.0, tags.1)
   ]
 
--- The start: a byte of flags, and where its bit 0 is set a FEN and a zero byte.
+-- The start: a byte of flags, and if its bit 0 is set a FEN and a zero byte.
 unfoldable pub start_at : List ℕ → Read Numbered
 start_at [] = Err ([], what.Short)
 start_at (flags ∷ bytes) = if flags % 2 == 0 then Ok (standard_start, bytes) else do
@@ -52,7 +52,7 @@ start_at (flags ∷ bytes) = if flags % 2 == 0 then Ok (standard_start, bytes) e
   position ← blamed (λ _. (bytes, what.Fen)) (fen_answer text.0)
   Ok (own_start position, text.1)
 
--- The items of a line from a place on, with its end, where their number has a bound. The texts of its comments stand elsewhere.
+-- The items of a line from a place on, with its end, if their number has a bound. The texts of its comments stand elsewhere.
 unfoldable pub moves_at : ℕ → Place → List ℕ → Read Movetext
 moves_at zero p bytes = Err (bytes, what.Short)
 moves_at (suc most) p bytes = do
@@ -97,7 +97,7 @@ game_at bytes = do
   Ok (free_of tags.0, game_of start.0.position (meaning (with_texts texts moves.0)))
 
 -- The place of a fault by the record's length and the bytes from the faulty item on: the item's first byte, and the
--- record's length where it ends early.
+-- record's length if it ends early.
 abbrev pub place_of : ℕ → List ℕ → RecordWhat → ℕ
 place_of len rest what.Short = len
 place_of len rest (what.Move of_move.Short) = len

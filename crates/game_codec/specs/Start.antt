@@ -1,4 +1,4 @@
--- The start of a game in its record: a byte of flags, and where its bit 0 is set a FEN and a zero byte (this project's
+-- The start of a game in its record: a byte of flags, and if its bit 0 is set a FEN and a zero byte (this project's
 -- own, after Scid's format; PGN standard, 16.1, for the FEN).
 use Rattle.std.specs.Prelude.{◌≡◌, ℕ, ◌%◌, ◌⊎◌, List, [], ◌∷◌, ◌++◌, Ok, Err}
 use Rattle.cell_core.specs.Text.{IsZeroFree}

@@ -161,7 +161,7 @@ impl OpenLine {
         Ok(played)
     }
 
-    // Keeps the position as the one before the next move, where a variation of that move may follow.
+    // Keeps the position as the one before the next move, if a variation of that move may follow.
     fn keep_before(&mut self, due: &[u8])
         ensures here { self.new.here ≡ self.old.here }
         ensures ply { self.new.ply ≡ self.old.ply }

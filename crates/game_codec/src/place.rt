@@ -112,7 +112,7 @@ impl Place {
         }
     }
 
-    // Keeps the position as the one before the next move, where a variation of that move may follow.
+    // Keeps the position as the one before the next move, if a variation of that move may follow.
     fn keep_before(&mut self, bytes: &[u8])
         ensures same { self.new ≡ with_before self.new.before self.old }
         ensures kept { (self.new.before ≡ self.old.here) ⊎ IsCalmBehind bytes.now }

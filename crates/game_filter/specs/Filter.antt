@@ -1,4 +1,4 @@
--- A filter is a list of optional plies, one per game: the ply at which the game is in, or none where
+-- A filter is a list of optional plies, one per game: the ply at which the game is in, or none if
 -- it is out. Each operation on filters is a function of such lists. This project's own; the
 -- operations are those of Scid's filters.
 use Rattle.std.specs.Prelude.{ℕ, nat_le, ◌&&◌, if◌then◌else◌, List, Option, Some, None, map, replicate, count_by, is_some}

@@ -17,8 +17,8 @@ pub trait Question {
     // Which games have to be read, and what is known of the others.
     ghost tells: { Self → Unread → Type 0 };
 
-    /// The first matching ply of game `i` of this signature, if it has one, where that is known without its record; `None` where the record
-    /// has to be read.
+    /// What is known of the first matching ply of game `i` of this signature without its record: the ply, if the game
+    /// has one; or `None`, if the record has to be read.
     fn unread(&mut self, i: u32, sig: &Brief<'_>) -> Option<Option<u32>>
         requires bounded { IsSigBounded sig.now }
         ensures same { self.new ≡ self.old }

@@ -82,7 +82,7 @@ abbrev pub closed : Open → List Open → Building
 closed o [] = record { current = o; outer = [] }
 closed o (round ∷ outer) = record { current = with_variation (variation_of o) round; outer = outer }
 
--- Where an item may stand: a NAG and a variation behind a move, and the end of a variation where one is open.
+-- Where an item may stand: a NAG and a variation behind a move, and the end of a variation if one is open.
 abbrev pub MayStand : Item → Building → Type 0
 MayStand (item.move m) b = Unit {0}
 MayStand (item.nag n) b = IsSome b.current.last

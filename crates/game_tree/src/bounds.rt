@@ -47,7 +47,7 @@ impl Date {
 }
 
 impl Rating {
-    /// Whether the value is at most 4095 and the kind at most 6, and 0 where the value is 0.
+    /// Whether the value is at most 4095 and the kind at most 6, and 0 if the value is 0.
     pub fn is_bounded(&self) -> bool
         ensures bounded { IsTrue result ↔ IsRating self.now }
     {

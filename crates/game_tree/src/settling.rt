@@ -99,7 +99,7 @@ fn first_near_date(tags: &[Tag], game: Date) -> Option<Date>
     None
 }
 
-// The date within the rule that this tag gives, where it is named EventDate.
+// The date within the rule that this tag gives, if it is named EventDate.
 #[tactic(auto, unfolding(crate::specs::Settle::near_date))]
 fn near_date(tag: &Tag, game: Date) -> Option<Date>
     ensures { result ≡ near_date game tag.now }

@@ -141,7 +141,7 @@ fn renumbered(
     Ok(both(rt, views))
 }
 
-// What a box that refuses its second row shows after it was to be watched, or nothing where that went well.
+// What a box that refuses its second row shows after it was to be watched, or nothing if that went well.
 fn refused(
     rt: &impl Abort,
     alloc: Global,

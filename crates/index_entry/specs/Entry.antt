@@ -22,7 +22,7 @@ outcome_of code = slice_index_or (outcomes.Unknown ∷ outcomes.White ∷ outcom
 abbrev pub date_in : List ℕ → Date
 date_in bytes = date_of (field bytes (bits 25 12 20))
 
--- An event date is there where its code is not 0, the game's year is known, and the event's year, the game's and the code less 4, is from 1 to 2047.
+-- An event date is there if its code is not 0, the game's year is known, and the event's year, the game's and the code less 4, is from 1 to 2047.
 abbrev pub has_event_date : ℕ → ℕ → Bool
 has_event_date year code = nat_lt 0 code && nat_lt 0 year && nat_lt 4 (year + code) && nat_lt (year + code) 2052
 

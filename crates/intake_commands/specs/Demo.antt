@@ -71,7 +71,7 @@ demo_text s seed games =
 abbrev pub shown_price : State → ℕ
 shown_price s = price s (search_position_work Ignore at_start) + price (shown_after s) (tree_work start_men White)
 
--- Where a game is refused, nothing is searched.
+-- If a game is refused, nothing is searched.
 abbrev pub demo_price : State → ℕ → ℕ → ℕ
 demo_price s seed games = if is_some (adding s seed games).refused then 0 else shown_price (adding s seed games).state
 

@@ -194,7 +194,7 @@ fn take_item<F: Files, K: Sink>(
     }
 }
 
-// Puts the line of an item on the page, which is written where that fills it, and says whether its game was added.
+// Puts the line of an item on the page, which is written if that fills it, and says whether its game was added.
 fn put_item<K: Sink>(
     page: &mut Vec<u8>,
     out: &mut K,

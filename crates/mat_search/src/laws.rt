@@ -9,7 +9,7 @@ ghost use Rattle.sig_index.specs.declared.signature.Sig.{Sig};
 ghost use Rattle.mat_search.specs.Matching.{FirstPly, first_of, matches_at};
 ghost use Rattle.mat_search.specs.Passing.{passes};
 
-/// A law: where `passes` is false of its signature, a legal game matches at no ply.
+/// A law: if `passes` is false of its signature, a legal game matches at no ply.
 pub fn tests_are_sound()
     ensures sound { (game : GameTree) (sig : Sig) (query : MatQuery) (ply : ℕ) → 1 ≤ query.streak → Sound game.start → IsLegalGame game → IsSig game sig
         → passes sig query ≡ false → matches_at query game ply ≡ false }

@@ -24,7 +24,7 @@ abbrev pub squares_of : Colour → Numbers → List ℕ
 squares_of White numbers = numbers.white
 squares_of Black numbers = numbers.black
 
--- The number of the man on a square, or how many men there are where none of them stands there.
+-- The number of the man on a square, or how many men there are if none of them stands there.
 abbrev pub number_of : List ℕ → ℕ → ℕ
 number_of squares square = position_or_len (λ s. s == square) squares
 

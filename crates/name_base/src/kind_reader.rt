@@ -267,7 +267,7 @@ fn by_id(
     Ok(names)
 }
 
-/// Puts each name at the place of its id, where these are the ids of all names.
+/// Puts each name at the place of its id, if these are the ids of all names.
 fn put_by_id(names: &mut IndexSet<Vec<u8>>, ids: &mut [u32])
     requires long { length ids.old ≡ length names.old.keys }
     requires met { AreMet (length ids.old) (map (λ p. record { id = p.1; name = p.0.items }) (zip names.old.keys ids.old)) }

@@ -14,7 +14,7 @@ pub record IsFitGame (head : Head) (game : GameTree) : Type 0 where
   pub bounded : IsBounded head
   pub settled : IsSettled head
 
--- An item is so where it is a game.
+-- An item is so if it is a game.
 abbrev pub IsFit : Item → Type 0
 IsFit (Good head game) = IsFitGame head game
 IsFit (Bad fault) = ⊤

@@ -38,7 +38,7 @@ value_of name tags = first_told (λ tag. if is_named name tag then Some tag.valu
 abbrev pub name_from : List ℕ → List Tag → List ℕ
 name_from name tags = unwrap_or (value_of name tags) (codes "?")
 
--- The result is that of the end mark; where it is `*`, that of the tag, if it reads.
+-- The result is that of the end mark; if it is `*`, that of the tag, if it reads.
 abbrev pub result_from : Outcome → List Tag → Outcome
 result_from outcome.Unknown tags = unwrap_or (option_and_then outcome_read (value_of (codes "Result") tags)) outcome.Unknown
 result_from result tags = result

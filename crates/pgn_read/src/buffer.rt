@@ -83,7 +83,7 @@ impl Buffer {
     }
 }
 
-// Moves the bytes from one place to another to the front, where those before them are as many, so that each move is paid by
+// Moves the bytes from one place to another to the front, if those before them are as many, so that each move is paid by
 // bytes that were used. Says where they begin then.
 #[tactic(auto, using(crate::proofs::BufferLaws::moved_front))]
 fn shift(bytes: &mut Vec<u8>, from: usize, to: usize) -> usize

@@ -87,7 +87,7 @@ impl ReadTag {
         }
     }
 
-    /// The tag, where it is an extra one.
+    /// The tag, if it is an extra one.
     #[tactic(auto, using(crate::proofs::FieldLaws::own_reserved, crate::proofs::FieldLaws::rating_is_reserved))]
     pub(crate) fn into_extra(self) -> Option<Tag>
         ensures extra { MatchOption result (is_reserved self.name ≡ true) (λ tag. (tag ≡ self) × (is_reserved self.name ≡ false)) }

@@ -15,7 +15,7 @@ use Rattle.game_tree.specs.Marks.{mark_letters}
 use Rattle.game_tree.specs.Outcome.{outcome_text}
 use Rattle.game_tree.specs.TagName.{rating_tag}
 
--- A byte of a value, with a backslash before it where it is a quotation mark or a backslash (PGN standard, 7).
+-- A byte of a value, with a backslash before it if it is a quotation mark or a backslash (PGN standard, 7).
 abbrev pub escaped_byte : ℕ → List ℕ
 escaped_byte byte = if (byte == 34) || (byte == 92) then 92 ∷ byte ∷ [] else byte ∷ []
 
@@ -55,7 +55,7 @@ abbrev pub letters_set : List ℕ → ℕ → List ℕ
 letters_set [] marks = []
 letters_set (letter ∷ letters) marks = letter_where (marks % 2 == 1) letter ++ letters_set letters (marks / 2)
 
--- The letters of a game's marks: D where it is marked as deleted, and then those of the other marks.
+-- The letters of a game's marks: D if it is marked as deleted, and then those of the other marks.
 unfoldable pub flags_text : Bool → ℕ → List ℕ
 flags_text deleted marks = letter_where deleted 68 ++ letters_set mark_letters marks
 

@@ -108,7 +108,7 @@ fn put_own(
     Ok(())
 }
 
-// Adds a move, with its number where that is due, and plays it.
+// Adds a move, with its number if that is due, and plays it.
 fn put_move(
     writer: &mut Writer,
     position: &mut Position,
@@ -126,7 +126,7 @@ fn put_move(
     Ok(())
 }
 
-// Adds the number of a move, where it is due.
+// Adds the number of a move, if it is due.
 fn put_number(
     writer: &mut Writer,
     side: Colour,

@@ -105,7 +105,7 @@ fn put_letters(out: &mut Vec<u8>, letters: &[u8]) -> Result<(), AllocError>
     }
 }
 
-// The letters of the marks that are set, behind D where the game is marked as deleted.
+// The letters of the marks that are set, behind D if the game is marked as deleted.
 #[tactic(auto, unfolding(crate::specs::TagPairs::flags_text))]
 fn flags_text(deleted: bool, marks: u32) -> ArrayVec<u8, 19>
     ensures letters { result.items ≡ flags_text deleted marks }
@@ -128,7 +128,7 @@ fn push_set(into: &mut ArrayVec<u8, 19>, letters: &[u8], marks: u32)
     }
 }
 
-// Adds a letter where it is set.
+// Adds a letter if it is set.
 fn push_where(into: &mut ArrayVec<u8, 19>, set: bool, letter: u8)
     requires room { length into.old.items < 19 }
     ensures letter { into.new.items ≡ into.old.items ++ letter_where set letter }

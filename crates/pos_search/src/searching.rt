@@ -22,7 +22,7 @@ use game_filter::{Filter, Op};
 use pos_index::{BoardHits, PosIndex};
 use sig_index::{FetchError, Games, PosQuery};
 
-/// The first ply at which game `i` matches, with the move after it on the main line and none in a variation, or `None` where it never does.
+/// The first ply at which game `i` matches, with the move after it on the main line and none in a variation, or `None` if it never does.
 /// `i` is below the number of games, and `buf` has at least 131,072 bytes. An index, if there is one, is meant to be one of these games. The
 /// game's record is read if it can match and the index does not decide it, and so many bytes count as asked.
 pub fn hit<G: Games, F: Files>(
@@ -79,7 +79,7 @@ pub fn search<G: Games, F: Files>(
     ensures rest { IfErr result (λ e. LeavesRest e filter.old filter.new) }
     // Whatever the files hold and however the search ends, a game that `op` does not look at keeps its entry.
     ensures kept { KeepsOthers (looks_at op) filter.old filter.new }
-    // And a game that is not read has the ply that the index tells of it, or no matching ply where the index tells none.
+    // And a game that is not read has the ply that the index tells of it, or no matching ply if the index tells none.
     ensures skipped { OnOk result ((i : ℕ) (sig : Sig) → slice_get (G.sigs games.now) i ≡ Some sig → is_read q.now (places_in (rows_told (option_copied index.entry)) i) sig ≡ false → slice_index_or filter.new i None ≡ entry_after op (slice_index_or filter.old i None) (ply_of (hit_told q.now (places_in (rows_told (option_copied index.entry)) i)))) }
     ensures entries { length filter.new ≡ length filter.old }
     ensures unchanged { F.seen files.new ≡ F.seen files.old }

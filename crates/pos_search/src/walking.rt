@@ -43,7 +43,7 @@ pub(crate) fn first_sought(
     }
 }
 
-// The same where variations are looked at too: the main line comes first, wherever its place stands.
+// The same if variations are looked at too: the main line comes first, wherever its place stands.
 fn first_in_lines(bytes: &[u8], q: &Sought<'_>) -> Result<Option<(u32, Option<Move>)>, RecordFault>
     requires few { length bytes.now < 2 ^ 32 }
     requires aside { IsTrue q.now.vars }

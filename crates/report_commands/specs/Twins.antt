@@ -18,7 +18,7 @@ abbrev pub with_deleted : State → List ℕ → State
 with_deleted s [] = s
 with_deleted s (game ∷ games) = with_base s (fold (λ base game. deleted game base) s.shared.base (game ∷ games))
 
--- An undeleted game is read where another undeleted one has the same names, date and result.
+-- An undeleted game is read if another undeleted one has the same names, date and result.
 abbrev pub twins_price : List Look → List (Option ℕ) → ℕ
 twins_price looks plies =
     sum_by (λ look. len_if (not look.head.deleted && nat_le 2 (agreeing look.head (map (λ look. look.head) looks))) look.len) looks

@@ -187,7 +187,7 @@ fn found_in(codes: &[Option<u16>]) -> usize
     codes.iter().filter(|code| code.is_some()).count()
 }
 
-// Gives each game its code, where it has one.
+// Gives each game its code, if it has one.
 fn set_codes(base: &mut Base, codes: &[Option<u16>])
     requires count { length codes.now ≡ length base.old.entries }
     requires small { All IsCode codes.now }

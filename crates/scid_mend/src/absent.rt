@@ -25,8 +25,8 @@ pub struct Absent {
 }
 
 impl Absent {
-    /// Which of the names and the games of a base are not there, where its index is. Where a file of it is set aside none counts as absent:
-    /// a run was broken off.
+    /// Which of the names and the games of a base are absent, if its index is there. If a file of it is set aside, none counts as
+    /// absent: a run was broken off.
     pub fn of_base(rt: &HostRuntime, name: &str) -> Result<Absent, Status> {
         let none = Absent {
             names: false,

@@ -56,7 +56,7 @@ fn refusal(alloc: Global, fault: FenFault) -> Result<Vec<u8>, AllocError>
     }
 }
 
-// The answer where a field is malformed.
+// The answer if a field is malformed.
 fn field_refusal(alloc: Global, number: u8) -> Result<Vec<u8>, AllocError>
     ensures lines { IfOk result (λ text. text.items ≡ error_lines (fault_name (FenFault.Field number))) }
 {

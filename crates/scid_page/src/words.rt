@@ -7,7 +7,7 @@ use cell_core::{Colour, PackedBoard, pack};
 use chess_laws::Position;
 use chess_text::read_board;
 
-/// How many half-moves a book goes on, and how many games reach a position at least, where the words do not say.
+/// How many half-moves a book goes on, and how many games reach a position at least, if the words do not say.
 const DEPTH: u8 = 16;
 
 const LEAST: u32 = 10;
@@ -18,7 +18,7 @@ pub struct Wanted<'a> {
     pub base: &'a str,
     pub folder: &'a str,
     pub reach: Reach,
-    /// The items of a search of heads, where not all games count.
+    /// The items of a search of heads, if not all games count.
     pub only: Option<&'a str>,
     /// The side that stands below on the boards.
     pub below: Colour,

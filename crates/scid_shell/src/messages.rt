@@ -94,7 +94,7 @@ fault, 6 changed game, 7 input too long, 8 out of memory. What it was is told
 on standard error.
 ";
 
-/// What to type where the base was named as its file is.
+/// What to type if the base was named as its file is.
 pub const NO_ENDING: &str = "a base is named without the ending of its files: ";
 
 /// What to type if there is no such base.

@@ -24,7 +24,7 @@ unfoldable pub named : List ℕ → Option ℕ
 named (sign ∷ digit ∷ blank ∷ line) = if (sign == 64) && (blank == 32) && nat_le 48 digit && nat_lt digit 52 then Some (digit - 48) else None
 named _ = None
 
--- What a line says that no client says, by how it reads alone: nothing where it has no word or is a remark, and else no known command.
+-- What a line says that no client says, by how it reads alone: nothing if it has no word or is a remark, and else no known command.
 abbrev pub unclaimed : Order → Order
 unclaimed (Ok Nothing) = Ok Nothing
 unclaimed _ = Err Unknown

@@ -7,7 +7,7 @@ use Rattle.script_text.specs.Tasks.{body_word, task}
 use Rattle.script_lines.specs.Clients.{Clients, Tagged, heard, is_end, is_quit, line_of, new_clients, said, tagged_task}
 use Rattle.script_lines.specs.declared.line.Line.{Line}
 
--- The tasks of a script, and how many bytes it has: up to and with the line that ends it, or all of them where none does.
+-- The tasks of a script, and how many bytes it has: up to and with the line that ends it, or all of them if none does.
 pub record Script : Type 0 where
   pub tasks : List Tagged
   pub size : ℕ

@@ -83,7 +83,7 @@ pub record IsWhole (word : List ℕ) (ahead : List ℕ) (count line : ℕ) : Typ
 abbrev pub NoEnd : List ℕ → List ℕ → ℕ → Type 0
 NoEnd word ahead count = (body_of word true (take count ahead)).end ≡ None
 
--- Where the input tells what it has: what was ahead at the beginning.
+-- The fact about what was ahead at the beginning, if the input tells what it has.
 abbrev pub IfAhead : Start → (List ℕ → Type 0) → Type 0
 IfAhead s fact = (ahead : List ℕ) → s.ahead ≡ Some ahead → fact ahead
 

@@ -10,7 +10,7 @@ abbrev pub ◌>>=◌ : {A B : Type 0} → Result A ScriptFault → (A → Result
 (Ok x) >>= next = next x
 (Err fault) >>= next = Err fault
 
--- The text of word n; none where the word is missing or not closed.
+-- The text of word n; none if the word is missing or not closed.
 abbrev pub text_at : List Word → ℕ → Option (List ℕ)
 text_at words n = option_and_then (λ word. word) (slice_get words n)
 

@@ -64,7 +64,7 @@ fn put_hits<K: Sink>(filter: &Filter, text: &mut Vec<u8>, out: &mut K) -> Result
     write_all(out, text.as_slice())
 }
 
-// Puts the line of a game behind the text, if it is in, and writes the text where it is long enough.
+// Puts the line of a game behind the text, if it is in, and writes the text if it is long enough.
 fn put_game<K: Sink>(
     text: &mut Vec<u8>,
     game: u32,

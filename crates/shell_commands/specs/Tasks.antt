@@ -101,7 +101,7 @@ writes_early (Ok Export) = true
 writes_early (Ok (Demo seed games)) = true
 writes_early _ = false
 
--- What is known of the files where a task was broken off that leaves a base in their place: nothing of its text was written, or they carry what
+-- What is known of the files if a task was broken off that leaves a base in their place: nothing of its text was written, or they carry what
 -- the state behind it says.
 abbrev pub SettledTask : Seen → Window → State → Task → Option (List ℕ) → Option (List ℕ) → Type 0
 SettledTask seen w s t told told' = IfSome (order_left t.order) (λ left. Settled seen ((tasks w).after s t) told told')

@@ -23,7 +23,7 @@ pub fn refused_tasks_change_nothing()
         → ((word : List ℕ) → t.order ≡ Ok (Import word) → ⊥) → ((seed games : ℕ) → t.order ≡ Ok (Demo seed games) → ⊥) → (tasks w).after s t ≡ s }
     ensures imported { (w : Window) (s : State) (word body : List ℕ) → (more : List Held) × (((tasks w).after s (task (Ok (Import word)) body)).shared.base.games ≡ s.shared.base.games ++ more) }
     ensures made { (w : Window) (s : State) (seed games : ℕ) (body : List ℕ) → (more : List Held) × (((tasks w).after s (task (Ok (Demo seed games)) body)).shared.base.games ≡ s.shared.base.games ++ more) }
-    // Where no game is added the state is as it was: of `demo` where it ends with the error line of a game, since else it searches.
+    // If no game is added, the state is as it was. Of `demo` this holds if it ends with the error line of a game, since else it searches.
     ensures imported_none { (w : Window) (s : State) (word body : List ℕ) → ((tasks w).after s (task (Ok (Import word)) body)).shared.base.games ≡ s.shared.base.games → (tasks w).after s (task (Ok (Import word)) body) ≡ s }
     ensures made_none { (w : Window) (s : State) (seed games : ℕ) (body : List ℕ) → IsError ((tasks w).text s (task (Ok (Demo seed games)) body)) → ((tasks w).after s (task (Ok (Demo seed games)) body)).shared.base.games ≡ s.shared.base.games → (tasks w).after s (task (Ok (Demo seed games)) body) ≡ s }
 {}

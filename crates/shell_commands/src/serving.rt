@@ -67,13 +67,13 @@ pub fn serve<F: Files, B: Source, K: Sink>(
     // Of an export that is broken off, the games before that one are written whole.
     ensures whole { (s : State) → Stands machine.old (F.seen files.old) s → order.now ≡ Ok Export → IfErr result (λ e. ExportCut s.seat.filter s.shared.base.games e (K.taken out.old) (K.taken out.new)) }
 
-    // Where it is broken off the files carry what they carried, or perhaps what `save` saves or `compact` leaves.
+    // If it is broken off, the files carry what they carried, or perhaps what `save` saves or `compact` leaves.
     ensures carries { (s : State) → Stands machine.old (F.seen files.old) s → IfErr result (λ _. StillCarry (F.seen files.new) s (order_left order.now)) }
 
-    // Where the files fail nothing of its text was written, unless it writes while it works.
+    // If the files fail, nothing of its text was written, unless it writes while it works.
     ensures unsaid { writes_early order.now ≡ false → IfErr result (λ e. Unsaid e (K.taken out.old) (K.taken out.new)) }
 
-    // Where it is one that leaves a base in their place, nothing of its text was written before they carry that.
+    // If it is one that leaves a base in their place, nothing of its text was written before they carry that.
     ensures settled { (s : State) (text : List ℕ) → Stands machine.old (F.seen files.old) s → B.left body.old ≡ Some text → IfErr result (λ _. SettledTask (F.seen files.new) window s (task order.now text) (K.taken out.old) (K.taken out.new)) }
 
     // Whatever the files tell, they change by a line alone that may change them, and no base is chosen.

@@ -25,7 +25,7 @@ Views = List (Option Meaning)
 abbrev pub meanings : {B : Type 0} → (B → List Row) → (B → ℕ) → List (Option B) → Views
 meanings rows told views = map (option_map (λ view. record { rows = rows view; told = told view })) views
 
--- The slots over some views: one is idle where a view stands, and empty else.
+-- The slots over some views: one is idle if a view stands, and empty else.
 abbrev pub slots_by : Views → List Slot
 slots_by views = map (λ k. if is_some (in_slot views k) then idle else empty) (range_with_len 0 8)
 
@@ -50,7 +50,7 @@ pub record AreBeside (around : Around) (d : Desk) : Type 0 where
   pub idle : (k : ℕ) → slot_at d.slots k ≡ idle → in_slot around.now k ≡ in_slot around.first k
   pub told : (k : ℕ) → told_by (in_slot around.now k) ≤ told_by (in_slot around.first k) + around.most k
 
--- What a line that is broken off leaves in a slot that it does not watch: no view where it was empty, and where it was idle that of the beginning.
+-- What a line that is broken off leaves in a slot that it does not watch: no view if it was empty, and if it was idle that of the beginning.
 abbrev pub IsLeftIn : Slot → Option Meaning → Option Meaning → Type 0
 IsLeftIn empty first now = now ≡ None
 IsLeftIn idle first now = now ≡ first

@@ -36,7 +36,7 @@ pub record Given : Type 0 where
 abbrev pub given : List (List ℕ) → List ℕ → List ℕ → List ℕ → List ℕ → Views → Given
 given words index names games script views = record { words = words; index = index; names = names; games = games; script = script; views = views }
 
--- What an input shows: the bytes left where it tells them, its budget, and its faults.
+-- What an input shows: the bytes left if it tells them, its budget, and its faults.
 pub record Inlet : Type 0 where
   pub left : Option (List ℕ)
   pub budget : ℕ
@@ -54,7 +54,7 @@ pub record Opened (given : Given) : Type 0 where
   pub mends : Mended given.index base.games mended
   pub faultless : (fault : BaseFault) → Refuses wanted.create wanted.strict given.index given.names given.games fault → ⊥
 
--- The desk in which the script begins: of four clients where the words ask for it, and else of one.
+-- The desk in which the script begins: of four clients if the words ask for it, and else of one.
 abbrev pub begun : (given : Given) → Opened given → Desk
 begun given opened = desk_begin opened.wanted.desk (is_created opened.wanted.create given.index given.names given.games) (slots_by given.views) opened.base
 
@@ -96,7 +96,7 @@ BrokenBy _ d next told told' = ⊤
 
 -- The same, with what remains then. The files carry what they carried, or what the line leaves in their place; of one that leaves a base
 -- there nothing was written behind what was told, or they carry what the desk behind it says. The slots that the line does not watch
--- are empty where they were, and the views of idle ones are as they were at the beginning.
+-- are empty if they were, and the views of idle ones are as they were at the beginning.
 pub record Breaks (status : Status) (around' : Around) (told' : Option (List ℕ)) (d : Desk) (next : Tagged) (told : Option (List ℕ)) : Type 0 where
   pub broken : BrokenBy status d next told told'
   pub carries : StillCarry around'.seen (seen_by d 0) (line_left d (said next.client next.task.order))
@@ -159,7 +159,7 @@ Answers given told told' input input' around' Memory =
     ⊎ (OpeningCut given told told' input input' around' ⊎ ScriptCut Memory given told told' input'.left around')
 Answers given told told' input input' around' status = ScriptCut status given told told' input'.left around'
 
--- The status where no device has a fault and memory does not run out.
+-- The status if no device has a fault and memory does not run out.
 abbrev pub Due : Given → Status → Type 0
 Due given Done = (opened : Opened given) × (script_len opened.wanted.desk given.script ≤ longest_script)
 Due given InputTooLong = (opened : Opened given) × (longest_script < script_len opened.wanted.desk given.script)
@@ -169,7 +169,7 @@ Due given _ = ⊥
 
 -- ---- bytes asked of the games file
 
--- A session asks at most the records of all games, to open the base, and where it is open what the lines of its script ask.
+-- A session asks at most the records of all games, to open the base, and if it is open what the lines of its script ask.
 abbrev pub Asks : Given → ℕ → ℕ → Type 0
 Asks given old new =
     (new ≤ old + open_cost given.index)
@@ -192,18 +192,18 @@ WhyStatus _ old new = ⊤
 abbrev pub ChoosesBase : List (List ℕ) → List Choice → List Choice → Type 0
 ChoosesBase words old new = IsSomeAnd (words_read words) (λ wanted. new ≡ old ++ choice wanted.name wanted.create ∷ [])
 
--- Which bases were chosen: none where the words name none, and none or the one where memory ran out.
+-- Which bases were chosen: none if the words name none, and none or the one if memory ran out.
 abbrev pub Chooses : Status → List (List ℕ) → List Choice → List Choice → Type 0
 Chooses Usage words old new = new ≡ old
 Chooses Memory words old new = (new ≡ old) ⊎ ChoosesBase words old new
 Chooses _ words old new = ChoosesBase words old new
 
--- What stays as it is where the words or the files refuse: what was written, and what the input shows.
+-- What stays as it is if the words or the files refuse: what was written, and what the input shows.
 abbrev pub StaysIfRefused : {A : Type 0} → Status → A → A → Type 0
 StaysIfRefused Usage old new = new ≡ old
 StaysIfRefused (BadBase fault) old new = new ≡ old
 StaysIfRefused _ old new = ⊤
 
--- Nothing was asked of the input then; where the script is too long, more than the limit was read.
+-- Nothing was asked of the input then; if the script is too long, more than the limit was read.
 abbrev pub Reads : Status → Inlet → Inlet → Type 0
 Reads status old new = StaysIfRefused status old new × (status ≡ InputTooLong → new.budget + longest_script < old.budget)

@@ -25,8 +25,8 @@ CarryIt seen base = (c : Contents seen) × Carries c.index c.names c.games base
 abbrev pub IsFaultless : List ℕ → List ℕ → List ℕ → Type 0
 IsFaultless index names games = (strict : Bool) (fault : BaseFault) → FirstFault strict index names games fault → ⊥
 
--- The files beside a base that is open: they carry this base, whose names have the same ids in what is kept, and where nothing is unsaved they
--- mean it, without a fault where it was written as a whole.
+-- The files beside a base that is open: they carry this base, whose names have the same ids in what is kept, and if nothing is unsaved they
+-- mean it, without a fault if it was written as a whole.
 pub record Beside (kept : Kept) (seen : Seen) (unsaved : Bool) (carried : Carried) : Type 0 where
   pub contents : Contents seen
   pub carries : Carries contents.index contents.names contents.games carried.base
@@ -54,8 +54,8 @@ AreLeft seen (Some carried) unsaved =
     × (unsaved ≡ false → carried.sound ≡ true → (c : Contents seen) × IsFaultless c.index c.names c.games))
 AreLeft seen None unsaved = AreEmpty seen
 
--- What the files carry where a command was broken off: what they carried before it, or perhaps what it leaves of a base that replaces them.
--- Nothing is said where the base was created and neither saved nor compacted.
+-- What the files carry if a command was broken off: what they carried before it, or perhaps what it leaves of a base that replaces them.
+-- Nothing is said if the base was created and neither saved nor compacted.
 abbrev pub StillCarry : Seen → State → Option (Base → Base) → Type 0
 StillCarry seen s left =
     IfSome s.shared.carried (λ (carried : Carried). CarryIt seen carried.base ⊎ IsSomeAnd left (λ leaves. CarryIt seen (leaves s.shared.base)))

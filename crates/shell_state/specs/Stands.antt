@@ -129,7 +129,7 @@ AsksBy (by_state price) holding old new = ⊤
 abbrev pub Asks : Holding → Work → ℕ → ℕ → Type 0
 Asks holding work old new = AsksBy work.price holding old new
 
--- And no fewer, of one whose price is what it asks where it is done; a counter of bytes stands still at its last value.
+-- And no fewer, of one whose price is what it asks if it is done; a counter of bytes stands still at its last value.
 abbrev pub AsksAllBy : Price → Holding → ℕ → ℕ → Type 0
 AsksAllBy (by_looks price) holding old new = raised old (price (looks_in holding) holding.seat.filter) ≤ new
 AsksAllBy (by_state price) holding old new = ⊤
@@ -148,7 +148,7 @@ pub record IsOpen (kept : Kept) (seen : Seen) (created : Bool) (base : Base) : T
 abbrev pub ShowNone : List Slot → Type 0
 ShowNone slots = (games : List Held) → tables_of games slots ≡ replicate 8 None
 
--- A machine begins with what an open base keeps: it is sound where the base ends with the games file, and where a base was opened or created
+-- A machine begins with what an open base keeps: it is sound if the base ends with the games file, and if a base was opened or created
 -- it stands for the state in which a script begins.
 pub record Begins (kept : Kept) (holding : Holding) : Type 0 where
   pub sound : (seen : Seen) → IsEnd kept.end seen → Sound holding seen

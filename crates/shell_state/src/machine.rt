@@ -64,7 +64,7 @@ impl Machine {
         requires room { length block.items ≡ 131072 }
         ensures holds { IfOk result (λ machine. machine ≡ record { kept = base; tables = no_tables; seat = first_seat (length base.entries) }) }
 
-        // Where its base was opened without changes, it stands for the state in which a script begins.
+        // If its base was opened without changes, it stands for the state in which a script begins.
         ensures begins { IfOk result (Begins base) }
     {
         let filter = Filter::new(alloc, base.header().games)?;

@@ -47,7 +47,7 @@ pub struct DiskBase {
     ahead: Ahead,
     // What was added behind the first addition, and is not in the file yet.
     waiting: Waiting,
-    // The new games file, where one was begun.
+    // The new games file, if one was begun.
     fresh: Option<NewGames>,
     // The new files that this run made and that are not in their places yet.
     made: Trio<Option<Stamp>>,
@@ -173,7 +173,7 @@ impl DiskBase {
         outcome
     }
 
-    // Writes what waits, where no other run may change the base meanwhile.
+    // Writes what waits, if no other run may change the base meanwhile.
     fn put_waiting(&mut self, system: &HostRuntime) -> Result<(), Trouble> {
         let count = self.waiting.bytes().len();
         if count == 0 {
@@ -195,7 +195,7 @@ impl DiskBase {
         if self.adder.is_some() {
             return Ok(());
         }
-        // Where the names of new files do not fit, this tells before anything is added.
+        // If the names of new files do not fit, this tells before anything is added.
         is_there(system, &self.places, Kind::Index.new())?;
         let spot = Kind::Games.current();
         let path = self.places.path(spot);
@@ -387,7 +387,7 @@ impl DiskBase {
         self.release();
     }
 
-    /// Removes the three files of a new base, where nothing was put in their places.
+    /// Removes the three files of a new base, if nothing was put in their places.
     pub fn take_away(&mut self, system: &HostRuntime) {
         self.end(system);
         if Kind::ALL.iter().all(|kind| self.files.of(*kind).len() == 0) {

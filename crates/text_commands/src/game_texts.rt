@@ -282,7 +282,7 @@ fn read_text<F: Files>(
     }
 }
 
-// Puts the text of a game behind another text, which stays as it is where that fails. Its record is read into `block`.
+// Puts the text of a game behind another text, which stays as it is if that fails. Its record is read into `block`.
 fn read_behind<F: Files>(
     alloc: Global,
     base: &Base,
@@ -314,7 +314,7 @@ fn read_behind<F: Files>(
     }
 }
 
-// Puts the text of a game with this head behind another text, which stays as it is where that fails.
+// Puts the text of a game with this head behind another text, which stays as it is if that fails.
 fn put_behind(alloc: Global, head: &Head, game: &Game, text: &mut Vec<u8>) -> Result<(), AllocError>
     requires legal { IsLegalGame game.now }
     requires bounded { IsBounded head.now }

@@ -10,7 +10,7 @@ use Rattle.tree_live.specs.Views.{Shows}
 use Rattle.tree_live.specs.RowChanges.{rows_changed}
 use Rattle.tree_live.specs.Watching.{Watched, hits_in, all_changes, staying, under, with_game}
 
--- The slot k is the view with the number first + k, for each k below the count; where it is watched, its watch.
+-- The slot k is the view with the number first + k, for each k below the count; if it is watched, its watch.
 pub record Slotted : Type 0 where
   pub first : ℕ
   pub count : ℕ

@@ -1,4 +1,4 @@
--- What a watch keeps of the games of a base, and what changes where the filter or a game does (this project's own).
+-- What a watch keeps of the games of a base, and what changes when the filter or a game does (this project's own).
 use Rattle.std.specs.Prelude.{ℕ, ◌+◌, ◌==◌, ◌&&◌, if◌then◌else◌, Bool, true, false, List, [], ◌∷◌, ◌++◌, Option, Some, None, map, is_some, option_to_list, length, slice_set, nat_lt}
 use Rattle.cell_core.specs.Packed.{Packed}
 use Rattle.game_tree.specs.declared.head.Outcome.{Outcome}
@@ -15,7 +15,7 @@ pub record Watched : Type 0 where
   pub board : Packed
   pub games : List Entry
 
--- The hit of a game, where it is in the filter.
+-- The hit of a game, if it is in the filter.
 abbrev pub counted : Entry → Option GameHit
 counted game = if game.is_in then game.hit else None
 

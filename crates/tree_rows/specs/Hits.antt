@@ -25,6 +25,6 @@ hit_from next side outcome white black year =
       year = year;
     }
 
--- The same of a game with this head: its ratings are those of every kind, 0 where a side has none.
+-- The same of a game with this head: its ratings are those of every kind, 0 if a side has none.
 abbrev pub hit_of : Option Move → Colour → Head → GameHit
 hit_of next side head = hit_from next side head.result head.white_rating.value head.black_rating.value head.date.year

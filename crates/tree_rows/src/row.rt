@@ -99,7 +99,7 @@ fn raised(sum: u64, number: u16) -> u64
     sum + u64::from(number)
 }
 
-// One where a game ended so.
+// One if a game ended so.
 fn ended(outcome: Outcome, result_of_game: Outcome) -> u32
     ensures one { result ≡ ended outcome result_of_game }
     ensures few { result ≤ 1 }

@@ -115,7 +115,7 @@ fn push_number(into: &mut Vec<u8>, number: u128) -> Result<(), AllocError>
     push_right(into, digits.format(number).as_bytes(), 9)
 }
 
-// Adds a quotient at the right of six places, or a dash where nothing can be divided by.
+// Adds a quotient at the right of six places, or a dash if nothing can be divided by.
 fn push_quotient(into: &mut Vec<u8>, number: u128, by: u128) -> Result<(), AllocError>
     ensures { OnOk result (into.new.items ≡ into.old.items ++ right_in 6 (quotient number by)) }
 {

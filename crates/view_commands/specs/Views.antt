@@ -108,7 +108,7 @@ changes_of s later _ = 0
 abbrev pub entries_of : State → Packed → List Entry
 entries_of s board = under s.seat.filter (all_out (map (hit_of_game (exactly_on board)) s.shared.base.games))
 
--- A view that stays was told no more than so many changes; there is none where there was none.
+-- A view that stays was told no more than so many changes; there is none if there was none.
 abbrev pub IsToldAtMost : {B : Type 0} → (B → ℕ) → ℕ → Option B → Option B → Type 0
 IsToldAtMost told most None after = after ≡ None
 IsToldAtMost told most (Some before) None = Unit {0}

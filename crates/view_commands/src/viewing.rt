@@ -108,7 +108,7 @@ fn text_of(alloc: Global, view: &dyn TreeView, packed: &PackedBoard) -> Result<V
     Ok(text)
 }
 
-// The rows that a view shows. One whose move is legal from no position of this board and side is left out: where the files are told there
+// The rows that a view shows. One whose move is legal from no position of this board and side is left out: if the files are told there
 // is none, but a view may stand beside files that tell nothing.
 fn shown_rows(
     alloc: Global,
