@@ -71,7 +71,8 @@ def calls_of(path):
             call.head += " " + text
         if text == "{" or (text.endswith("{") and not CLAUSE.match(line)):
             call, note = (call, note) if text.startswith(("pub fn", "fn")) and not text.endswith("{") else (None, [])
-        remark = [*remark, text[3:]] if text.startswith("// ") else []
+        if not text.startswith("#["):
+            remark = [*remark, text[3:]] if text.startswith("// ") else []
         if not text.startswith(("///", "#[")):
             doc = []
 

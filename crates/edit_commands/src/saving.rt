@@ -16,7 +16,7 @@ use base_files::{Files, Sink, Stop};
 use shell_state::{Halt, Machine, write_line};
 use std::alloc::{AllocError, Global};
 
-/// save
+/// The command `save`: makes the files mean the base, and writes its line.
 #[tactic(auto, using(shell_state::proofs::Causing::unsaid_without))]
 pub fn save<F: Files, K: Sink>(
     alloc: Global,

@@ -25,7 +25,7 @@ use pgn_read::{Item, PgnError, Reader};
 use shell_state::{Halt, Machine, game_line, write_full, write_page};
 use std::alloc::Global;
 
-/// import <<WORD: takes the games of a body in, and gives the last line of its text, which is not written yet.
+/// The command `import <<WORD`: takes the games of a body in, and gives the last line of its text, which is not written yet.
 pub fn import<F: Files, B: Source, K: Sink>(
     alloc: Global,
     machine: &mut Machine,

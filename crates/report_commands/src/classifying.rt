@@ -22,7 +22,7 @@ use shell_state::{Halt, Machine, write_line};
 use sig_index::Games;
 use std::alloc::Global;
 
-/// eco <<WORD
+/// The command `eco <<WORD`: gives each game its opening code by the table in the body, and writes its line.
 #[tactic(auto, using(shell_state::proofs::Causing::unsaid_without))]
 pub fn eco<F: Files, B: Source, K: Sink>(
     alloc: Global,

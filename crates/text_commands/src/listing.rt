@@ -24,7 +24,7 @@ use shell_state::{Halt, Machine, PIECE, filter_line};
 use sig_index::Games;
 use std::alloc::AllocError;
 
-/// list
+/// The command `list`: writes a line with the head of each game of the filter, and then that of the filter.
 pub fn list<K: Sink>(machine: &mut Machine, out: &mut K) -> Result<(), Halt>
     requires fits { Fits machine.old }
     requires sound { IsSound machine.old.kept }

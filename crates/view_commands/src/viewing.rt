@@ -21,7 +21,7 @@ use std::alloc::{AllocError, Global};
 use tree_live::{NoView, TreeView};
 use tree_rows::{Row, is_key, lines};
 
-/// view K of a user: gives its text, which is not written yet.
+/// The command `view K` of a user: gives its text, which is not written yet.
 pub fn view(
     alloc: Global,
     machine: &Machine,
@@ -39,8 +39,8 @@ pub fn view(
     }
 }
 
-/// unwatch K of a user: gives its line, which is not written yet. Views of slots that are not the user's own are as
-/// before.
+/// The command `unwatch K` of a user: gives its line, which is not written yet. Views of slots that are not the user's own
+/// are as before.
 pub fn unwatch(
     alloc: Global,
     machine: &mut Machine,
