@@ -24,8 +24,8 @@ use name_base::{Names, PartNames};
 use std::alloc::{AllocError, Global};
 use std::marker::Model;
 
-/// A base that takes over games of an open base one by one: their heads, the names that they use, and the places that their records are
-/// to have in a new games file.
+/// A base that takes over games of an open base one by one. It has their heads, the names that they use, and the places
+/// that their records are to have in a new games file.
 #[derive(Drop)]
 pub struct Draft {
     base: Base,

@@ -3,7 +3,7 @@ ghost use Rattle.std.specs.Prelude.{◌≡◌, ◌<◌, ◌≤◌, SomeIff};
 
 use std::marker::Model;
 
-/// A square of the board, numbered from a1 = 0 to h8 = 63, file by file within a rank: its file is its number modulo 8,
+/// A square of the board, numbered from a1 = 0 to h8 = 63, file by file within a rank. Its file is its number modulo 8,
 /// and its rank its number divided by 8, both from 0.
 #[derive(Clone, Copy, Debug, Default, PartialEq, Eq, PartialOrd, Ord, Hash)]
 pub struct Square {

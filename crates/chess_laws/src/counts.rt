@@ -8,8 +8,8 @@ use super::census::number;
 use cell_core::{Board, Colour, Kind, Man};
 use std::marker::Model;
 
-/// How many queens, rooks, bishops, knights and pawns White has, and then Black: a byte for each in a word for each side, so
-/// that two words tell whether counts are the same. Contracts see the list of the ten.
+/// How many queens, rooks, bishops, knights and pawns White has, and then Black. A word for each side has a byte for
+/// each kind, so that two words tell whether counts are the same. Contracts see the list of the ten.
 #[derive(Clone, Copy, Debug, PartialEq, Eq)]
 pub struct Counts {
     white: u64,

@@ -8,8 +8,8 @@ use super::fault::FenFault;
 use super::letters::man_of;
 use cell_core::{Board, Square};
 
-/// Reads a piece placement, the first field of a FEN (PGN standard, 16.1.3.1): eight ranks from the eighth down with
-/// `/` between them, each of exactly eight squares from file a on. Any other text is `Field(1)`.
+/// Reads a piece placement, the first field of a FEN (PGN standard, 16.1.3.1). It has eight ranks from the eighth down
+/// with `/` between them, each of exactly eight squares from file a on. Any other text is `Field(1)`.
 pub fn read_board(text: &[u8]) -> Result<Board, FenFault>
     ensures found { IfOk result (λ board. PlacementText text.now board) }
     ensures only { (board : Men) → PlacementText text.now board → result ≡ Ok board }

@@ -5,8 +5,8 @@ use Rattle.base_files.specs.Told.{adds}
 use Rattle.command_runs.specs.Tagged.{line_begins, tagged, untagged}
 use Rattle.command_runs.specs.Waiting.{Waiting}
 
--- Where a tagged text begins: its tag, what the sink tells before it and how many faults it has counted, and which references to the sink
--- and to the page it goes through, by their ghost names.
+-- Where a tagged text begins: its tag, what the sink tells before it and how many faults it has counted. Ghost names
+-- tell which references to the sink and to the page it goes through.
 pub record Opening : Type 0 where
   pub tag : List ℕ
   pub told : Option (List ℕ)

@@ -34,8 +34,9 @@ impl Model for Table {
 }
 
 impl Table {
-    /// Adds the text of the table: a line for each name, with its rank, its points, its games with a known result and its cells, and a
-    /// line that counts the names and all of the event's games. After want of memory the bytes are as they were.
+    /// Adds the text of the table. It has a line for each name, with its rank, its points, its games with a known
+    /// result and its cells. The last line counts the names and all of the event's games. After want of memory the
+    /// bytes are as they were.
     pub fn write(&self, into: &mut Vec<u8>) -> Result<(), AllocError>
         ensures text { OnOk result (into.new.items ≡ into.old.items ++ table_text self.now) }
         ensures unchanged { OnErr result (into.new.items ≡ into.old.items) }

@@ -14,9 +14,9 @@ use Rattle.game_codec.specs.Token.{Token, Play, Nag, Comment, Open, Close, End}
 use Rattle.game_codec.specs.declared.fault.RecordWhat.{RecordWhat}
 use Rattle.game_codec.specs.declared.fault.RecordWhat.TheVariants as what
 
--- A place in a line: how many variations are open there, the position before the line's last move and the position after
--- it, whether the line has a move yet, and whether a comment stands at the place. Before the first move of a line both
--- positions are the one that the line begins at.
+-- A place in a line: how many variations are open there, the position before the line's last move and the position
+-- after it. It also has whether the line has a move yet, and whether a comment stands at the place. Before the first
+-- move of a line both positions are the one that the line begins at.
 pub record Place : Type 0 where
   pub depth : ℕ
   pub before : Numbered

@@ -22,8 +22,8 @@ is_in span n = nat_le span.lo n && nat_le n span.hi
 abbrev pub begins : List ℕ → List ℕ → Bool
 begins name text = starts_with (λ a b. a == b) name text
 
--- An item of a name, of either player's name, of a result, of a number, of the opening code, of the deleted mark and of a mark, beside what a
--- game has there. An item of the opening code never holds of a game without one.
+-- An item beside what a game has there. Items are of a name, of either player's name, of a result, of a number, of the
+-- opening code, of the deleted mark and of a mark. An item of the opening code never holds of a game without one.
 unfoldable pub name_item : Option (List ℕ) → List ℕ → Bool
 name_item asked name = holds asked (λ text. begins name text)
 

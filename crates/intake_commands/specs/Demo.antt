@@ -18,8 +18,8 @@ use Rattle.shell_state.specs.declared.refusing.Refusal.{Refusal}
 
 -- ---- the adding
 
--- The state behind the games that were added, the number from which the next one is drawn, the sum of their plies, and why the game behind
--- them is not added, if there was such a one.
+-- The state behind the games that were added, the number from which the next one is drawn, and the sum of their plies.
+-- If the game behind them is not added, it has why.
 pub record Adding : Type 0 where
   pub state : State
   pub number : ℕ

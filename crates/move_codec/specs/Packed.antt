@@ -101,7 +101,7 @@ abbrev pub diagonal_move : ℕ → List ℕ → Result (Move × ℕ) MoveFault
 diagonal_move from [] = Err Short
 diagonal_move from (byte ∷ rest) = to_square from None 2 (diagonal_square from byte)
 
--- The move of a man of this kind and side on a square, by its value and the bytes after it. A queen's value that is her
+-- The move of a man of this kind and side on a square, by its value and the bytes after it. A queen's value that is its
 -- own file opens a diagonal move.
 unfoldable pub named_value : Kind → Colour → ℕ → ℕ → List ℕ → Result (Move × ℕ) MoveFault
 named_value King side from value rest = to_square from None 1 (by_difference king_differences from value)

@@ -56,8 +56,8 @@ rating_told side tag = option_and_then (rating_as side tag.value) (rating_of tag
 abbrev pub rating_from : Colour → List Tag → Rating
 rating_from side tags = unwrap_or (first_told (rating_told side) tags) (record { value = 0; kind = 0 })
 
--- The letters of all tags ScidFlags, and the marks that they set: the twelve user marks and the six custom marks from the lowest
--- bit on, and D the mark of a deleted game (after Scid). Other letters set none.
+-- The letters of all tags ScidFlags, and the marks that they set (after Scid). They are the twelve user marks and the
+-- six custom marks from the lowest bit on, and D, the mark of a deleted game. Other letters set none.
 abbrev pub flags_of : List Tag → List ℕ
 flags_of tags = flat_map (λ tag. if is_named (codes "ScidFlags") tag then tag.value else []) tags
 

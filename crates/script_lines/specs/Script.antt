@@ -32,8 +32,8 @@ with_bytes t bytes = record { client = t.client; task = task t.task.order (t.tas
 abbrev pub with_line : List ℕ → Script → Script
 with_line line s = record s { size = suc (length line) + s.size }
 
--- A task begins, and what comes behind it is said at a place: in a body, by its task with so much of it yet and the word up to which the lines
--- are its own, or between tasks.
+-- A task begins, and what comes behind it is said at a place. In a body, the place has its task with so much of it yet,
+-- and the word up to which the lines are its own. Else it is between tasks.
 abbrev pub begun : Tagged → Option (List ℕ) → (Option (Tagged × List ℕ) → Script) → Script
 begun t None later = led_by t (later None)
 begun t (Some word) later = later (Some (t, word))

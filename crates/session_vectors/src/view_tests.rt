@@ -18,8 +18,8 @@ const WATCH_AND_IMPORT: &[u8] =
 const IMPORT_WATCH_AND_IMPORT: &[u8] =
     b"import <<X\n1. d4 *\nX\nwatch 0 rnbqkbnr/pppppppp/8/8/8/8/PPPPPPPP/RNBQKBNR w\nimport <<X\n1. c4 *\nX\n";
 
-/// Each kind of command that may change a row: a tag and a deletion change none, `clear` and `reset` the one, each game that comes in one, and
-/// a game that goes one.
+/// Each kind of command that may change a row. A tag and a deletion change none, `clear` and `reset` the one, each game
+/// that comes in one, and a game that goes one.
 const FOLLOW: &[u8] =
     b"watch 0 rnbqkbnr/pppppppp/8/8/8/8/PPPPPPPP/RNBQKBNR w\ntag 0 White A\nclear\nreset\nimport <<X\n1. d4 *\n\n1. e4 *\nX\ndelete 1\ncompact\n";
 

@@ -1,5 +1,5 @@
--- What stands around the desk of a session: what the files tell, and the views of the slots, at its beginning and now, with how many changes
--- each was told since then at most. This project's own.
+-- What stands around the desk of a session (this project's own): what the files tell, and the views of the slots, at
+-- its beginning and now. Beside them stands how many changes each view was told since then at most.
 use Rattle.std.specs.Prelude.{◌≡◌, ◌≤◌, ◌+◌, ℕ, ⊤, false, if◌then◌else◌, List, [], ◌∷◌, Option, None, is_some, map, option_map}
 use Rattle.std.specs.List.{range_with_len}
 use Rattle.std.specs.Option.{option_map_or}

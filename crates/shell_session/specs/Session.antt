@@ -69,11 +69,11 @@ opening_text games mended = codes "base " ++ decimal games ++ codes " games " ++
 
 -- ---- the run of the script
 
--- The whole script was run: its text is written, and the input was read to its end or to the line of the `quit` by
--- which its last client ends, and at most so many bytes further. The files carry the base that the last `save` or
--- `compact` left, or the opened one, and mean it if no edit came after. Each view of a slot that shows a tree has the
--- rows of the games that are in then for the slot's owner. One of a slot that was never watched is as before. None was
--- told more changes than the tasks tell it.
+-- The whole script was run. Its text is written. The input was read to its end or to the line of the `quit` by which
+-- its last client ends, and at most so many bytes further. The files carry the base that the last `save` or `compact`
+-- left, or the opened one, and mean it if no edit came after. Each view of a slot that shows a tree has the rows of the
+-- games that are in then for the slot's owner. One of a slot that was never watched is as before. None was told more
+-- changes than the tasks tell it.
 pub record RanAll (d : Desk) (script : List ℕ) (told : Option (List ℕ)) (told' : Option (List ℕ)) (later : Option (List ℕ)) (around' : Around) : Type 0 where
   pub written : told' ≡ adds told (run desks d (script_of d.clients.tagged script))
   pub within : script_len d.clients.tagged script ≤ longest_script
@@ -94,9 +94,10 @@ BrokenBy FilesFault d next told told' =
 BrokenBy (Changed game kept found) d next told told' = ⊥
 BrokenBy _ d next told told' = ⊤
 
--- The same, with what remains then. The files carry what they carried, or what the line leaves in their place; of one that leaves a base
--- there nothing was written behind what was told, or they carry what the desk behind it says. The slots that the line does not watch
--- are empty if they were, and the views of idle ones are as they were at the beginning.
+-- The same, with what remains then. The files carry what they carried, or what the line leaves in their place. Of a
+-- line that leaves a base there nothing was written behind what was told, or the files carry what the desk behind it
+-- says. The slots that the line does not watch are empty if they were, and the views of idle ones are as they were at
+-- the beginning.
 pub record Breaks (status : Status) (around' : Around) (told' : Option (List ℕ)) (d : Desk) (next : Tagged) (told : Option (List ℕ)) : Type 0 where
   pub broken : BrokenBy status d next told told'
   pub carries : StillCarry around'.seen (seen_by d 0) (line_left d (said next.client next.task.order))
@@ -104,8 +105,8 @@ pub record Breaks (status : Status) (around' : Around) (told' : Option (List ℕ
       IfSome (line_left d (said next.client next.task.order)) (λ left. Settled around'.seen (seen_by (desks.after d next) 0) told told')
   pub views : AreLeftBy around' d (said next.client next.task.order)
 
--- The lines that are done at a fault of the input are those that were read with their line feed; at a script that is too long those that end
--- within the limit. Their clients are four at a desk.
+-- The lines that are done. At a fault of the input they are those that were read with their line feed, and at a script
+-- that is too long those that end within the limit. Their clients are four at a desk.
 abbrev pub LinesDone : Status → Bool → List ℕ → Option (List ℕ) → List Tagged → Type 0
 LinesDone ReadFault desk script later done = (front : List ℕ) × (Some script ≡ before front later) × (done ≡ whole_lines desk front)
 LinesDone InputTooLong desk script later done = (longest_script < script_len desk script) × (done ≡ whole_lines desk (take longest_script script))

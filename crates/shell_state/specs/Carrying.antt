@@ -25,8 +25,8 @@ CarryIt seen base = (c : Contents seen) × Carries c.index c.names c.games base
 abbrev pub IsFaultless : List ℕ → List ℕ → List ℕ → Type 0
 IsFaultless index names games = (strict : Bool) (fault : BaseFault) → FirstFault strict index names games fault → ⊥
 
--- The files beside a base that is open: they carry this base, whose names have the same ids in what is kept, and if nothing is unsaved they
--- mean it, without a fault if it was written as a whole.
+-- The files beside a base that is open. They carry this base, whose names have the same ids in what is kept. If nothing
+-- is unsaved they mean it, without a fault if it was written as a whole.
 pub record Beside (kept : Kept) (seen : Seen) (unsaved : Bool) (carried : Carried) : Type 0 where
   pub contents : Contents seen
   pub carries : Carries contents.index contents.names contents.games carried.base

@@ -148,8 +148,8 @@ pub record IsOpen (kept : Kept) (seen : Seen) (created : Bool) (base : Base) : T
 abbrev pub ShowNone : List Slot → Type 0
 ShowNone slots = (games : List Held) → tables_of games slots ≡ replicate 8 None
 
--- A machine begins with what an open base keeps: it is sound if the base ends with the games file, and if a base was opened or created
--- it stands for the state in which a script begins.
+-- A machine begins with what an open base keeps. It is sound if the base ends with the games file. If a base was opened
+-- or created, it stands for the state in which a script begins.
 pub record Begins (kept : Kept) (holding : Holding) : Type 0 where
   pub sound : (seen : Seen) → IsEnd kept.end seen → Sound holding seen
   pub stands : (seen : Seen) (created : Bool) (slots : List Slot) (base : Base) → ShowNone slots → IsOpen kept seen created base

@@ -59,8 +59,8 @@ games_of s = map (λ held. held.game) s.shared.base.games
 abbrev pub with_index : State → Option ℕ → State
 with_index s depth = record s { shared = record s.shared { index = depth } }
 
--- The state in which a script begins over a base that was opened or, in an empty folder, created: every game is in at ply 0, and nothing is
--- kept or unsaved, or indexed. Its slots are these.
+-- The state in which a script begins over a base that was opened or, in an empty folder, created. Every game is in at
+-- ply 0, and nothing is kept or unsaved, or indexed. Its slots are these.
 abbrev pub begin : Bool → List Slot → Base → State
 begin created slots base = record {
   shared = record { base = base; carried = if created then None else Some (record { base = base; sound = false }); unsaved = false; index = None };

@@ -40,8 +40,8 @@ abbrev pub price_by : Price → State → ℕ
 price_by (by_looks price) s = price (looks_of s.shared) s.seat.filter
 price_by (by_state price) s = price s
 
--- What a command makes of a state, and the text that it writes; whether it uses the files, may change them, and reads a body; the base that it
--- leaves in their place, if it replaces them; and its price.
+-- What a command makes of a state, and the text that it writes. It also has whether the command uses the files, may
+-- change them, and reads a body. Then come the base that it leaves in their place, if it replaces them, and its price.
 pub record Work : Type 0 where
   pub after : State → State
   pub text : State → List ℕ

@@ -226,7 +226,7 @@ impl DiskBase {
         Ok(())
     }
 
-    /// Makes `bytes` the whole of a part: they are written into a new file beside it, which then takes its place, so that
+    /// Makes `bytes` the whole of a part. They are written into a new file beside it, which then takes its place. So
     /// the part is as it was wherever that fails.
     pub fn replace(
         &mut self,
@@ -293,8 +293,9 @@ impl DiskBase {
         outcome
     }
 
-    /// Puts the new games file, to which `added` bytes were added, and new files of the two parts in the place of the current
-    /// three, of which each is as it was wherever that fails. There is no new games file afterwards.
+    /// Puts new files in the place of the current three: the new games file, to which `added` bytes were added, and
+    /// those of the two parts. Each of the three is as it was wherever that fails. There is no new games file
+    /// afterwards.
     pub fn commit_new(
         &mut self,
         system: &HostRuntime,

@@ -242,8 +242,8 @@ impl Slots {
         }
     }
 
-    /// Takes the games of the filter in and the others out of `count` slots from slot `start` on, and tells the view of each of them that is
-    /// watched the rows that differ from those it shows.
+    /// Takes the games of the filter in and the others out of `count` slots from slot `start` on. It tells the view of
+    /// each of them that is watched the rows that differ from those it shows.
     pub fn show(
         &mut self,
         alloc: Global,

@@ -14,8 +14,9 @@ use cell_core::{Board, Colour};
 use itoa::Buffer;
 use std::alloc::{AllocError, Global};
 
-/// Adds the text of a tree of this board and side to move: a line for each row, by games falling and then by key, and one for the sums of
-/// all rows. Each key is a move that is legal from some position of this board and side, or none.
+/// Adds the text of a tree of this board and side to move. It has a line for each row, by games falling and then by
+/// key, and one for the sums of all rows. Each key is a move that is legal from some position of this board and side,
+/// or none.
 ///
 /// It fails only for want of memory, and then nothing was added.
 #[tactic(auto, using(std::proofs::Common::append_assoc), unfolding(crate::specs::TreeText::tree_text))]
