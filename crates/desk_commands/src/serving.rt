@@ -37,7 +37,7 @@ use tree_live::TreeView;
 
 /// Does what a line says for the client that says it, brings it to the others, and writes its text. If clients have
 /// tags, each line of the text stands behind the client's tag. The views of all slots stay right. Nothing of `body` is
-/// read for a line without a body, nor for one that no client says, or one that has ended.
+/// read for a line without a body, for a line of no client, or for one of a client that has ended.
 pub fn serve<F: Files, B: Source, K: Sink>(
     alloc: Global,
     desk: &mut Desk,

@@ -14,7 +14,7 @@ rise sig range place = slice_index sig.material place - slice_index range.hi pla
 
 -- One colour's counts can have been at most those of the range. No more pawns are left than it allows, and each rise is
 -- one of the other pawns that it allows, promoted. The game had promotions if there is a rise, and promotions to other
--- men than queens if one of those rises.
+-- men than queens if the rise is of rooks, bishops or knights.
 abbrev pub colour_can_stand : Sig → MatRange → ℕ → Bool
 colour_can_stand sig range queens =
     nat_le (slice_index sig.material (queens + 4)) (slice_index range.hi (queens + 4))
