@@ -17,7 +17,7 @@ TOP = pathlib.Path(__file__).resolve().parent.parent
 MOST_WORDS, MOST_CHARACTERS, MOST_LINES = 40, 200, 3500
 TURNS = re.compile(
     r"\bit says so\b|\bthat is said\b|\bwhat comes over\b|\bwhere (?:it|they|one|that|these) (?:is|are|does|do) not\b"
-    r"|\b(?:only|exactly|also) where\b|\b[Ww]here there (?:is|are)\b|\bwhere that can't be\b|\bOf what (?:stands|stood|is)\b|\b[Hh]e\b|\b[Hh]is\b"
+    r"|\b(?:only|exactly|also) where\b|\b[Ww]here there (?:is|are)\b|\bwhere that can't be\b|\bOf what (?:stands|stood|is)\b|\b[Hh](?:e|im|is)\b"
 )
 LEFT = {}
 
