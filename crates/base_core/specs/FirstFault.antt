@@ -86,7 +86,7 @@ pub record Signs (bytes : List ℕ) (s : Sig) : Type 0 where
   pub read : IsRecord bytes tags tree
   pub signed : IsSig tree s
 
--- The entry of a game has no fault; derived fields count where the opening is strict.
+-- The entry of a game has no fault; derived fields count if the opening is strict.
 pub record Passes (strict : Bool) (names : NameLists) (games : List ℕ) (game : ℕ) (bytes : List ℕ) : Type 0 where
   pub fields : Entry
   pub checked : entry_checked names (length games) game bytes ≡ Ok fields
@@ -98,7 +98,7 @@ pub record Passes (strict : Bool) (names : NameLists) (games : List ℕ) (game :
 abbrev pub AllPass : Bool → List ℕ → NameLists → List ℕ → ℕ → Type 0
 AllPass strict index names games count = (i : ℕ) → i < count → Passes strict names games i (entry_bytes index i)
 
--- What the entry of a game says, or its first fault: of the entry itself, of its record, of its derived fields where the opening is strict.
+-- What the entry of a game says, or its first fault: of the entry itself, of its record, of its derived fields if the opening is strict.
 unfoldable pub entry_answer : Bool → NameLists → List ℕ → ℕ → List ℕ → Result Entry BaseFault
 entry_answer strict names games game bytes = do
   e ← entry_checked names (length games) game bytes

@@ -41,7 +41,7 @@ impl Sets {
         self.colours[colour_place(man.colour)] |= square;
     }
 
-    /// A man leaves his square.
+    /// Takes a man away from its square.
     pub(crate) fn remove(&mut self, s: u8, man: Man)
         requires { s < 64 }
         ensures sets { (men : Men) → length men ≡ 64 → self.old ≡ sets_of men → man_at men s ≡ Some man → self.new ≡ sets_of (put men s None) }

@@ -23,12 +23,13 @@ abbrev pub between : List (List ℕ) → ℕ → ℕ → ℕ → ℕ
 between table row a b =
     bit_and (bit_and (entry table row a) (18446744073709551615 - entry table row b)) (18446744073709551615 - 1 * 2 ^ b % 18446744073709551616)
 
--- Whether it says so of two squares on a line, and the steps come from the one to the other over a board with no man.
+-- Whether the table names just the squares between two squares on a line, and the steps lead from the one to the other
+-- over a board with no man.
 abbrev pub is_between : List (List ℕ) → Option ℕ → ℕ → ℕ → Bool
 is_between table None a b = true
 is_between table (Some row) a b = (between table row a b == crossed (offset_at row) 8 b a) && run [] (offset_at row) 8 b a
 
--- Whether it says so of any two squares.
+-- Whether the table does so for any two squares.
 unfoldable pub names_between : List (List ℕ) → Bool
 names_between table = agree_below (λ a. agree_below (λ b. is_between table (line a b) a b) (λ b. true) 64) (λ a. true) 64
 

@@ -61,7 +61,7 @@ target_by row s = shift (offset_at row) s
 abbrev pub entry : List (List ℕ) → ℕ → ℕ → ℕ
 entry table row s = slice_index_or (slice_index_or table row []) s 0
 
--- Whether a number is that of the square, or off the board where there is none.
+-- Whether a number is that of the square, or is off the board for no square.
 abbrev pub is_named : Option ℕ → ℕ → Bool
 is_named None t = nat_le 64 t
 is_named (Some a) t = t == a

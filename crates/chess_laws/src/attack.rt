@@ -25,7 +25,7 @@ pub fn attacks(board: &Board, by: Colour, s: Square) -> bool
     attacks_left(board, Left::of(board, by), by, s)
 }
 
-/// Whether some man of the colour `by` attacks the square `s`, where these of its men are left of the board.
+/// Whether some man of the colour `by` attacks the square `s`, if these of its men are left of the board.
 pub fn attacks_left(board: &Board, left: Left, by: Colour, s: Square) -> bool
     ensures { (new : Men) → Leaves board.now by left.men left.occupied new → IsTrue result ↔ Attacks new by s }
 {
@@ -44,7 +44,7 @@ pub fn attacks_left(board: &Board, left: Left, by: Colour, s: Square) -> bool
     leaps(king_squares(s), left.of_kind(board, Kind::King))
 }
 
-/// Whether some man of the colour `by` that slides attacks the square `s`, where these of its men are left of the board.
+/// Whether some man of the colour `by` that slides attacks the square `s`, if these of its men are left of the board.
 #[inline(always)]
 #[tactic(auto, unfolding(crate::specs::LegalTests::line, crate::specs::Between::names_seen))]
 pub fn slides_left(board: &Board, left: Left, by: Colour, s: Square) -> bool
@@ -94,7 +94,7 @@ pub(crate) fn stands(board: &Board, from: Square, colour: Colour, kind: Kind) ->
     board.at(from) == Some(Man { colour, kind })
 }
 
-/// Whether one of these men, who slide as this kind of man does, slides to `s`, where men stand on these squares. A table has the
+/// Whether one of these men, who slide as this kind of man does, slides to `s`, if men stand on these squares. A table has the
 /// squares on the lines through each square.
 #[inline(always)]
 fn slides(men: u64, occupied: u64, kind: Kind, lines: &[u64; 64], s: Square) -> bool
@@ -106,7 +106,7 @@ fn slides(men: u64, occupied: u64, kind: Kind, lines: &[u64; 64], s: Square) -> 
     come(there, occupied, kind, s)
 }
 
-/// Whether equal steps of this kind of man lead from `s` to one of the squares, where men stand on these.
+/// Whether equal steps of this kind of man lead from `s` to one of the squares, if men stand on these.
 #[inline(always)]
 fn come(squares: SquareSet, occupied: u64, kind: Kind, s: Square) -> bool
     ensures { (new : Men) → occupied ≡ set_of is_some new → IsTrue result ↔ ((a : ℕ) × (Has squares a × Any (Runs new s a) (slides kind))) }
@@ -117,7 +117,7 @@ fn come(squares: SquareSet, occupied: u64, kind: Kind, s: Square) -> bool
     come_along(squares, occupied, kind, s)
 }
 
-// The same, where there are some.
+// The same for squares of which there is at least one.
 #[inline(never)]
 fn come_along(squares: SquareSet, occupied: u64, kind: Kind, s: Square) -> bool
     ensures { (new : Men) → occupied ≡ set_of is_some new → IsTrue result ↔ ((a : ℕ) × (Has squares a × Any (Runs new s a) (slides kind))) }

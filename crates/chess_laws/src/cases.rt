@@ -116,7 +116,8 @@ pub fn has_no_own(board: &Board, colour: Colour, s: Square) -> bool
     }
 }
 
-/// Whether a move names a promotion exactly where a pawn comes to the last rank.
+/// Whether a pawn that comes to the last rank is promoted to a queen, rook, bishop or knight, and no other move names a
+/// promotion.
 #[inline(always)]
 fn promotes_rightly(side: Colour, kind: Kind, m: &Move) -> bool
     ensures { result ≡ promotes_rightly side kind m.now }
@@ -215,7 +216,7 @@ fn may_castle(p: &Setup, m: &Move, wing: Wing) -> bool
         && is_way_free(&p.board, p.side, wing)
 }
 
-/// Whether it is the null move, where the mover may pass.
+/// Whether it is the null move, and the mover may pass.
 fn is_null(p: &Setup, king: Square, m: &Move) -> bool
     requires king { IsOnlyKing p.now.board p.now.side king }
     ensures { IsTrue result ↔ NullCase p.now m.now }

@@ -23,9 +23,13 @@ use super::setup::{Rights, Setup};
 use cell_core::{Board, Colour, Kind, Man, Move, Square};
 use std::marker::Model;
 
-/// A position that keeps the rules: one king a side, no pawn on the first or last rank, at most 16 men a side, the side
-/// that is not to move not in check, a right only where king and rook stand at home, and an en passant square only on
-/// the sixth rank with White to move or on the third with Black to move.
+/// A position that keeps the rules:
+///
+/// - Each side has one king and at most 16 men.
+/// - No pawn stands on the first or the last rank.
+/// - The side that is not to move is not in check.
+/// - A castling right is left only if its king and rook stand at home.
+/// - An en passant square is on the sixth rank with White to move, and on the third with Black to move.
 #[derive(Clone, Copy, Debug, PartialEq, Eq)]
 pub struct Position {
     inner: Setup,

@@ -1,7 +1,7 @@
--- What may stand at a place of a record's moves (this project's own, after Scid's format): a packed move, or one of five
--- marks. 11 is a NAG of the last move and has one more byte, 12 a comment of the last move or of the line's
--- beginning, 13 begins a variation of the last move, 14 ends it, and 15 ends the game. The marks after a move stand in any
--- order; those behind a variation still belong to the move that it hangs on.
+-- What may stand at a place of a record's moves (this project's own, after Scid's format): a packed move, or one of
+-- five marks. 11 is a NAG of the last move and has one more byte. 12 is a comment of the last move, or of the line's
+-- beginning. 13 begins a variation of the last move, 14 ends it, and 15 ends the game. The marks after a move stand in
+-- any order; those behind a variation still belong to the move that it hangs on.
 use Rattle.std.specs.Prelude.{◌≡◌, ℕ, zero, suc, ◌+◌, ◌<◌, ◌≤◌, ◌==◌, ◌⊎◌, Bool, true, false, not, nat_lt, if◌then◌else◌, IsTrue, List, [], ◌∷◌, Result, Ok, Err, drop}
 use Rattle.cell_core.specs.declared.step.Move.{Move}
 use Rattle.cell_core.specs.Steps.{blamed, ◌>>=◌}
@@ -13,9 +13,9 @@ use Rattle.game_codec.specs.Token.{Token, Play, Nag, Comment, Open, Close, End}
 use Rattle.game_codec.specs.declared.fault.RecordWhat.{RecordWhat}
 use Rattle.game_codec.specs.declared.fault.RecordWhat.TheVariants as what
 
--- A place in a line: how many variations are open there, the position before the line's last move and the position after
--- it, whether the line has a move yet, and whether a comment stands at the place. Before the first move of a line both
--- positions are the one that the line begins at.
+-- A place in a line: how many variations are open there, the position before the line's last move and the position
+-- after it. It also has whether the line has a move yet, and whether a comment stands at the place. Before the first
+-- move of a line both positions are the one that the line begins at.
 pub record Place : Type 0 where
   pub depth : ℕ
   pub before : Numbered

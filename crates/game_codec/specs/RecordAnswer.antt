@@ -1,5 +1,6 @@
--- What bytes are as a record, read from left to right (this project's own, after Scid's format): extra tags and a zero byte, the start, the moves,
--- and the texts of the comments in the order of their marks; or the first fault, before which all stands as in a record.
+-- What bytes are as a record, read from left to right (this project's own, after Scid's format). A record has extra
+-- tags and a zero byte, the start, the moves, and the texts of the comments in the order of their marks. Bytes that are
+-- no record have a first fault, before which all stands as in a record.
 use Rattle.std.specs.Prelude.{ℕ, zero, suc, ◌-◌, ◌%◌, ◌==◌, if◌then◌else◌, List, [], ◌∷◌, Some, None, Result, Ok, Err, length, drop, slice_index_or}
 use Rattle.cell_core.specs.Steps.{blamed, ◌>>=◌}
 use Rattle.chess_laws.specs.declared.setup.Setup.{Setup}
@@ -42,7 +43,7 @@ tags_at (suc most) bytes = do
     | Some tag ↦ tags_at most tag.1 >>= λ tags. Ok (tag.0 ∷ tags.0, tags.1)
   ]
 
--- The start: a byte of flags, and where its bit 0 is set a FEN and a zero byte.
+-- The start: a byte of flags, and if its bit 0 is set a FEN and a zero byte.
 unfoldable pub start_at : List ℕ → Read Numbered
 start_at [] = Err ([], what.Short)
 start_at (flags ∷ bytes) = if flags % 2 == 0 then Ok (standard_start, bytes) else do
@@ -50,7 +51,7 @@ start_at (flags ∷ bytes) = if flags % 2 == 0 then Ok (standard_start, bytes) e
   position ← blamed (λ _. (bytes, what.Fen)) (fen_answer text.0)
   Ok (own_start position, text.1)
 
--- The items of a line from a place on, with its end, where their number has a bound. Each takes a byte at least, so as many as there are bytes is
+-- The items of a line from a place on, with its end, if their number has a bound. Each takes a byte at least, so as many as there are bytes is
 -- a bound that is never met. The texts of the comments stand elsewhere.
 unfoldable pub moves_at : ℕ → Place → List ℕ → Read Movetext
 moves_at zero p bytes = Err (bytes, what.Short)
@@ -99,7 +100,7 @@ game_at bytes = do
   Ok (free_of tags.0, game_of start.0.position (meaning (with_texts moves.0 texts).0))
 
 -- The place of a fault by the record's length and the bytes from the faulty item on: the item's first byte, and the
--- record's length where it ends early.
+-- record's length if it ends early.
 abbrev pub place_of : ℕ → List ℕ → RecordWhat → ℕ
 place_of len rest what.Short = len
 place_of len rest (what.Move of_move.Short) = len

@@ -15,8 +15,9 @@ magic = codes "Scid.si" ++ 0 ∷ []
 abbrev pub number_in : ℕ → ℕ → List ℕ → ℕ
 number_in place width bytes = big_number width (drop place bytes)
 
--- The header's fields: the magic in bytes 0 to 7, the version in 8 and 9, the base type in 10 to 13, the number of games in 14 to 16, the autoload
--- game in 17 to 19, the description in 20 to 127, six names of custom marks in 128 to 181.
+-- The header's fields. The magic is in bytes 0 to 7, the version in 8 and 9, the base type in 10 to 13, and the number
+-- of games in 14 to 16. The autoload game is in 17 to 19, the description in 20 to 127, and six names of custom marks
+-- in 128 to 181.
 unfoldable pub head_in : List ℕ → IndexHead
 head_in bytes = record {
   kind = number_in 10 4 bytes;

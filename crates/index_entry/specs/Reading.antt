@@ -47,7 +47,7 @@ half byte i = if nat_eq (i % 2) 0 then byte / 16 else byte % 16
 unfoldable pub home_at : List ℕ → ℕ → ℕ
 home_at bytes i = if nat_lt i (slice_index bytes 38 % 64) then half (slice_index bytes (39 + i / 2)) i else 0
 
--- What the bytes say where they have no fault.
+-- What the bytes say if they have no fault.
 unfoldable pub fields_at : List ℕ → Outcome → ℕ → Date × Date → Rating → Rating → Entry
 fields_at b result eco dates white_rating black_rating = record {
   offset = big_from 0 4 b;

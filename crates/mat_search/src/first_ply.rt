@@ -11,8 +11,8 @@ use crate::streaks::{Streaks, is_over};
 use game_codec::{RecordFault, Walk};
 use sig_index::MatQuery;
 
-// The first ply of the main line of a record that matches, or `None` where none does. The walk ends where the answer is known. The
-// fault comes only where the bytes are no record.
+// The first ply of the main line of a record that matches, or `None` if none does. The walk ends when the answer is
+// known. Bytes that give a fault are no record.
 pub(crate) fn first_ply(bytes: &[u8], q: &MatQuery) -> Result<Option<u32>, RecordFault>
     requires few { length bytes.now < 2 ^ 32 }
     requires streak { 1 ≤ q.now.streak }

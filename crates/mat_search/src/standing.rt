@@ -1,4 +1,4 @@
-//! What a query says of the counts on the board, which is asked again only where they change.
+//! What a query says of the counts on the board, which is asked again only after they change.
 ghost use Rattle.std.specs.Prelude.{◌≡◌};
 ghost use Rattle.mat_search.specs.Streaks.{IsStanding, can_match_later};
 

@@ -289,7 +289,7 @@ impl Numbered {
     }
 
     /// The bytes of a legal move: two of a queen's diagonal move, one of any other. They decode to the move, whatever
-    /// follows them, and never begin with a byte from 11 to 15: a king's values end at 10, and his number is always 0.
+    /// follows them. They never begin with a byte from 11 to 15: a king's values end at 10, and its number is always 0.
     pub fn encode_move(&self, m: Move) -> ArrayVec<u8, 2>
         requires { Legal self.now.position m }
         ensures bytes { result.items ≡ encoding self.now m }
@@ -332,7 +332,7 @@ impl Numbered {
     }
 }
 
-/// The first byte, or 0 where there is none.
+/// The first byte, or 0 if there is none.
 #[inline(always)]
 fn first_byte(bytes: &[u8]) -> u8
     ensures byte { result ≡ slice_index_or bytes.now 0 0 }

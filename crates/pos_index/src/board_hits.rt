@@ -32,7 +32,7 @@ impl<'a> Model for BoardHits<'a> {
 }
 
 impl<'a> BoardHits<'a> {
-    /// The hits that an index has on a board; none of them, where there is no index.
+    /// The hits that an index has on a board, and none without an index.
     pub fn new(hits: &'a [Hit]) -> BoardHits<'a>
         ensures hits { result ≡ hits.now }
     {

@@ -5,7 +5,7 @@ use Rattle.script_text.specs.declared.fault.ScriptFault.{ScriptFault}
 use Rattle.script_text.specs.declared.fault.ScriptFault.TheVariants.{Argument, Extra}
 use Rattle.script_text.specs.Words.{Word}
 
--- The text of word n; none where the word is missing or not closed.
+-- The text of word n; none if the word is missing or not closed.
 abbrev pub text_at : List Word → ℕ → Option (List ℕ)
 text_at words n = option_and_then (λ word. word) (slice_get words n)
 

@@ -17,7 +17,7 @@ key_and_value word = option_and_then (split_once 61) word
 abbrev pub has_key : List Word → List ℕ → Bool
 has_key words key = list_any (λ word. option_map_or (λ parts. bytes_eq parts.0 key) (key_and_value word) false) words
 
--- Key and value of the next item, where no item before it has its key.
+-- Key and value of the next item, if no item before it has its key.
 abbrev pub new_item : List Word → Word → Option (List ℕ × List ℕ)
 new_item before word = option_and_then (λ parts. if has_key before parts.0 then None else Some parts) (key_and_value word)
 

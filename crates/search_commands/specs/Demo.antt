@@ -18,8 +18,8 @@ use Rattle.shell_state.specs.declared.refusing.Refusal.{Refusal}
 
 -- ---- the adding
 
--- The state behind the games that were added, the number from which the next one is drawn, the sum of their plies, and why the game behind
--- them is not added, if there was such a one.
+-- The state behind the games that were added, the number from which the next one is drawn, and the sum of their plies.
+-- If the game behind them is not added, it has why.
 pub record Adding : Type 0 where
   pub state : State
   pub number : ℕ
@@ -71,7 +71,7 @@ demo_text s seed games =
 abbrev pub shown_price : State → ℕ
 shown_price s = price s (search_position_work Ignore at_start) + price (shown_after s) (tree_work start_men White)
 
--- Where a game is refused, nothing is searched.
+-- If a game is refused, nothing is searched.
 abbrev pub demo_price : State → ℕ → ℕ → ℕ
 demo_price s seed games = if is_some (adding s seed games).refused then 0 else shown_price (adding s seed games).state
 

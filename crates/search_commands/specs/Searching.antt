@@ -28,7 +28,8 @@ search_position_after s op query = with_filter s (searched op (position.firsts_o
 abbrev pub search_position_text : State → Op → PosQuery → List ℕ
 search_position_text s op query = filter_line (search_position_after s op query).seat.filter
 
--- The first ply at which the head of a game is one that is asked for: 0, or none where it is not. More than 1,023 plies count as 1,023.
+-- The first ply at which the head of a game is one that is asked for: 0, or none if it is not one. More than 1,023
+-- plies count as 1,023.
 abbrev pub first_by_head : HeadQuery → Held → Option ℕ
 first_by_head query held = head.first_of query held.head (min (plies_of held.game) 1023)
 

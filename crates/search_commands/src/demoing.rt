@@ -30,7 +30,8 @@ enum Added {
     Refused(Refusal),
 }
 
-/// demo SEED GAMES
+/// The command `demo SEED GAMES`: adds so many games of draws from this seed, and writes its text. Then it searches for the
+/// initial position, and writes its tree.
 pub fn demo<F: Files, K: Sink>(
     alloc: Global,
     machine: &mut Machine,

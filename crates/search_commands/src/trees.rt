@@ -35,7 +35,7 @@ use sig_index::{Mode, PosQuery};
 use std::alloc::{AllocError, Global};
 use tree_rows::{Rows, lines};
 
-/// tree BOARD SIDE
+/// The command `tree BOARD SIDE`: writes the moves that the games of the filter made there.
 #[tactic(auto, using(shell_state::proofs::Causing::unsaid_without))]
 pub fn tree<F: Files, K: Sink>(
     alloc: Global,

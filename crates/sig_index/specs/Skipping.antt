@@ -12,8 +12,9 @@ AreAtMost counts range = (place : ℕ) → place < 10 → slice_index counts pla
 abbrev pub rise : Sig → MatRange → ℕ → ℕ
 rise sig range place = slice_index sig.material place - slice_index range.hi place
 
--- One colour's counts can have been at most those of the range: no more pawns are left than it allows, each rise is one of the other
--- pawns that it allows, promoted, and there were promotions where there is a rise.
+-- One colour's counts can have been at most those of the range. No more pawns are left than it allows, and each rise is
+-- one of the other pawns that it allows, promoted. The game had promotions if there is a rise, and promotions to other
+-- men than queens if the rise is of rooks, bishops or knights.
 abbrev pub colour_can_stand : Sig → MatRange → ℕ → Bool
 colour_can_stand sig range queens =
     nat_le (slice_index sig.material (queens + 4)) (slice_index range.hi (queens + 4))

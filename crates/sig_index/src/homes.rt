@@ -16,9 +16,9 @@ ghost use Rattle.sig_index.specs.declared.signature.Sig.{Sig as Signature};
 
 use crate::brief::Brief;
 
-/// Whether the pawns that stand at home can be those of a set, bit v for the home value v, at some ply of a game with this signature:
-/// the set has all values but those of the first pawns that left. Of a game with an own start nothing is known. A home list has at most 16
-/// values, each below 16.
+/// Whether the pawns that stand at home can be those of a set at some ply of a game with this signature. Bit v of the
+/// set stands for the home value v. The set can be theirs if it has all values but those of the first pawns that left,
+/// and every set can be that of a game with an own start. A home list has at most 16 values, each below 16.
 #[tactic(auto, unfolding(crate::specs::Homes::home_allows))]
 pub fn home_allows(s: &Brief<'_>, set: u16) -> bool
     requires home { IsHomeList s.now.home }
@@ -27,8 +27,8 @@ pub fn home_allows(s: &Brief<'_>, set: u16) -> bool
     s.has_own_start() || is_all_but_first(s, set)
 }
 
-/// A law: no move takes two pawns off their own squares, and none brings one back; so the pawns at home at a ply of a legal game from the
-/// initial position are all but the first of those that left, and `home_allows` holds for them.
+/// A law: no move takes two pawns off their own squares, and none brings one back. So the pawns at home at a ply of a
+/// legal game from the initial position are all but the first of those that left. `home_allows` holds for them.
 pub fn home_pawn_skipping_is_sound()
     ensures one_leaves { (p : Setup) (m : Move) (q : Setup) → Sound p → Step p m q → length (leaving_between p q) ≤ 1 }
     ensures none_returns { (p : Setup) (m : Move) (q : Setup) (value : ℕ) → Sound p → Step p m q → value < 16 → is_home q.board value ≡ true → is_home p.board value ≡ true }

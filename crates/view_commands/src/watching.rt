@@ -30,7 +30,8 @@ use std::alloc::Global;
 use tree_live::TreeView;
 use tree_rows::GameHit;
 
-/// watch K BOARD SIDE of a user: gives its line, which is not written yet. Views of slots that are not his own are as before.
+/// The command `watch K BOARD SIDE` of a user: gives its line, which is not written yet. Views of slots that are not the
+/// user's own are as before.
 pub fn watch<F: Files>(
     alloc: Global,
     machine: &mut Machine,
