@@ -65,8 +65,8 @@ fn hit_for(board: Option<&PackedBoard>, head: &Head, game: &Game) -> Option<Game
     ))
 }
 
-// What is counted of game `i` if it goes on with this move behind the match, if with any. Of its head only that is read.
-fn counted(base: &Base, i: u32, next: Option<Move>, side: Colour) -> GameHit
+/// What is counted of game `i` if it goes on with this move behind the match, if with any. Of its head only that is read.
+pub fn counted(base: &Base, i: u32, next: Option<Move>, side: Colour) -> GameHit
     requires there { i < length base.now.entries }
     ensures counted { result ≡ hit_of next side (head_in (heads_of base.now) i) }
 {
