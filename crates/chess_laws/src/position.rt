@@ -383,8 +383,18 @@ impl Position {
         ensures only { (q : Setup) → Step self.old m q → q ≡ self.new }
     {
         let effect = effect_of(self.setup(), &m);
+        self.play_as(&m, effect);
+    }
+
+    /// `play` of a move whose kind of half-move is known.
+    pub fn play_as(&mut self, m: &Move, effect: Effect)
+        requires legal { Legal self.old m.now }
+        requires effect { effect ≡ effect_of self.old m.now }
+        ensures step { Step self.old m.now self.new }
+        ensures only { (q : Setup) → Step self.old m.now q → q ≡ self.new }
+    {
         let standing = self.inner.board.at(m.from);
-        self.follow(&m, effect, standing);
+        self.follow(m, effect, standing);
     }
 
     // Plays a legal move of this kind, of what stands on its first square.

@@ -1,6 +1,6 @@
 -- A walk lies on the line of its ends.
 use Rattle.chess_laws.proofs.Lines.{runs_none, runs_row}
-use Rattle.chess_laws.proofs.between.runs.Goals as goal
+use Rattle.chess_laws.proofs.sliding.runs.Goals as goal
 
 pub returns-in-None : goal.returns-in-None
 returns-in-None c = λ men full. ((λ h. absurd (cc)), (λ any. absurd (runs_none men c.args.kind c.args.from c.args.to c.in-None.ensures.row any)))

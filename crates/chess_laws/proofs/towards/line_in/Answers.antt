@@ -1,7 +1,7 @@
 -- The table tells the row, or that there is none.
 use Rattle.chess_laws.proofs.Words.{arith}
 use Rattle.chess_laws.proofs.Ways.{way-none, way-row}
-use Rattle.chess_laws.proofs.offset.line_in.Goals as goal
+use Rattle.chess_laws.proofs.towards.line_in.Goals as goal
 
 pub returns-then-way-lt8-clause-row : goal.returns-then-way-lt8-clause-row
 returns-then-way-lt8-clause-row c =

@@ -1,14 +1,15 @@
-//! Which squares stand between two squares on a line.
-ghost use Rattle.std.specs.Prelude.{◌≡◌, ◌↔◌, ℕ, ◌<◌, Some, true, is_some, Any, IsTrue};
+//! How far men slide.
+ghost use Rattle.std.specs.Prelude.{◌≡◌, ◌↔◌, ℕ, ◌<◌, ◌++◌, List, true, is_some, Any, IsTrue, MatchOption};
 ghost use Rattle.std.specs.Int.{bit_at};
 ghost use Rattle.cell_core.specs.Board.{Men};
 ghost use Rattle.cell_core.specs.Sets.{set_of};
-ghost use Rattle.chess_laws.specs.Geometry.{Runs};
-ghost use Rattle.chess_laws.specs.LegalTests.{glides, line, run, slides};
-ghost use Rattle.chess_laws.specs.Between.{between, names_between};
+ghost use Rattle.chess_laws.specs.Geometry.{Offset, Runs, bishop_steps, rook_steps};
+ghost use Rattle.chess_laws.specs.LegalTests.{glides, slides};
+ghost use Rattle.chess_laws.specs.RayTable.{before, names_rays, rises};
 ghost use Rattle.chess_laws.specs.Rays.{offset_at};
 
-use super::offset::line;
+use super::targets::SquareSet;
+use super::towards::line;
 use cell_core::{Kind, Square};
 
 /// Whether equal steps, of this kind of man, lead from one square to the other over empty squares, where men stand on these.
@@ -26,10 +27,9 @@ pub fn runs(occupied: u64, kind: Kind, from: Square, to: Square) -> bool
 #[inline(always)]
 fn runs_by(occupied: u64, kind: Kind, row: u8, from: Square, to: Square) -> bool
     requires row { row < 8 }
-    requires line { Some row ≡ line from to }
     ensures { (men : Men) → occupied ≡ set_of is_some men → IsTrue result ↔ ((glides kind row ≡ true) × Runs men from to (offset_at row)) }
 {
-    glides(kind, row) && is_clear(occupied, row, from, to)
+    glides(kind, row) && SquareSet::of_bits(row_squares(occupied, row, from)).has(to)
 }
 
 /// Whether a man of this kind slides by the step of this row.
@@ -45,36 +45,83 @@ pub fn glides(kind: Kind, row: u8) -> bool
     }
 }
 
-// Whether no man stands between two squares, the step of this row leading from the first towards the second.
+/// Where equal steps, of this kind of man, lead from a square over empty squares, where men stand on these.
 #[inline(always)]
-fn is_clear(occupied: u64, row: u8, from: Square, to: Square) -> bool
-    requires row { row < 8 }
-    requires line { Some row ≡ line from to }
-    ensures { (men : Men) → occupied ≡ set_of is_some men → result ≡ run men (offset_at row) 8 to from }
+pub fn run_squares(occupied: u64, kind: Kind, from: Square) -> u64
+    ensures { (men : Men) → occupied ≡ set_of is_some men → (b : ℕ) → (bit_at result b ≡ 1) ↔ Any (Runs men from b) (slides kind) }
 {
-    is_clear_in(&RAYS, occupied, row, from, to)
+    match kind {
+        Kind::Rook => with_lines(0, occupied, from),
+        Kind::Bishop => diagonal_squares(occupied, from),
+        Kind::Queen => with_lines(diagonal_squares(occupied, from), occupied, from),
+        Kind::King | Kind::Knight | Kind::Pawn => 0,
+    }
 }
 
-// The same, by a table of where each step leads.
+// Where steps along files and ranks lead, and these squares, to which other steps do.
 #[inline(always)]
-fn is_clear_in(table: &[[u64; 64]; 8], occupied: u64, row: u8, from: Square, to: Square) -> bool
-    requires row { row < 8 }
-    requires line { Some row ≡ line from to }
-    requires says { names_between table.now ≡ true }
-    ensures { (men : Men) → occupied ≡ set_of is_some men → result ≡ run men (offset_at row) 8 to from }
+fn with_lines(squares: u64, occupied: u64, from: Square) -> u64
+    ensures { (men : Men) → occupied ≡ set_of is_some men → (steps : List Offset) → (b : ℕ) → ((bit_at squares b ≡ 1) ↔ Any (Runs men from b) steps) → (bit_at result b ≡ 1) ↔ Any (Runs men from b) (rook_steps ++ steps) }
 {
-    between_in(table, row, from, to) & occupied == 0
+    row_squares(occupied, 0, from)
+        | (row_squares(occupied, 1, from)
+            | (row_squares(occupied, 2, from) | (row_squares(occupied, 3, from) | squares)))
 }
 
-// The squares between the two, which are those that the first sees and the second neither is nor sees.
-fn between_in(table: &[[u64; 64]; 8], row: u8, from: Square, to: Square) -> u64
-    requires row { row < 8 }
-    ensures squares { result ≡ between table.now row from to }
-    ensures on_board { from < 64 × to < 64 }
+// Where steps along diagonals lead.
+#[inline(always)]
+fn diagonal_squares(occupied: u64, from: Square) -> u64
+    ensures { (men : Men) → occupied ≡ set_of is_some men → (b : ℕ) → (bit_at result b ≡ 1) ↔ Any (Runs men from b) bishop_steps }
 {
-    let first = from.index();
-    let second = to.index();
-    table[row as usize][first as usize] & !table[row as usize][second as usize] & !(1u64 << second)
+    row_squares(occupied, 4, from)
+        | (row_squares(occupied, 5, from)
+            | (row_squares(occupied, 6, from) | (row_squares(occupied, 7, from) | 0)))
+}
+
+// Where equal steps of this row lead.
+#[inline(always)]
+fn row_squares(occupied: u64, row: u8, from: Square) -> u64
+    requires row { row < 8 }
+    ensures { (men : Men) → occupied ≡ set_of is_some men → (b : ℕ) → (bit_at result b ≡ 1) ↔ Runs men from b (offset_at row) }
+{
+    row_squares_in(&RAYS, occupied, row, from)
+}
+
+// The same, by a table of where each step leads: the squares behind the first man are those to which it leads from there.
+#[inline(always)]
+fn row_squares_in(table: &[[u64; 64]; 8], occupied: u64, row: u8, from: Square) -> u64
+    requires row { row < 8 }
+    requires says { names_rays table.now ≡ true }
+    ensures { (men : Men) → occupied ≡ set_of is_some men → (b : ℕ) → (bit_at result b ≡ 1) ↔ Runs men from b (offset_at row) }
+{
+    let ray = table[row as usize][from.index() as usize];
+    match first_on(row, ray & occupied) {
+        None => ray,
+        Some(first) => ray & !table[row as usize][first as usize],
+    }
+}
+
+// Which of these squares steps of this row come to first.
+#[inline(always)]
+fn first_on(row: u8, squares: u64) -> Option<u8>
+    ensures some { MatchOption result (squares ≡ 0) (λ s. s < 64 × (bit_at squares s ≡ 1)) }
+    ensures first { MatchOption result (Unit {0}) (λ s. (a : ℕ) → bit_at squares a ≡ 1 → before (rises row) a s ≡ true → ⊥) }
+{
+    if squares == 0 {
+        None
+    } else if rises(row) {
+        Some(squares.trailing_zeros() as u8)
+    } else {
+        Some(squares.ilog2() as u8)
+    }
+}
+
+// Whether steps of this row lead to squares of greater numbers.
+#[inline(always)]
+fn rises(row: u8) -> bool
+    ensures { result ≡ rises row }
+{
+    row == 0 || row == 2 || row == 4 || row == 5
 }
 
 // Where equal steps of each of the first eight lead from each square, to the edge.
