@@ -1,6 +1,8 @@
 -- Each square from which a man goes as a text says is among those that are tried.
 use Rattle.std.proofs.Common.{◌≡◌, ◌↔◌, IsTrue, ℕ, zero, suc, ◌+◌, ◌<◌, ◌||◌, ◌==◌, inl, inr, [], ◌∷◌, List, length, Bool, true, false, eqb, Any, Option, Some, None, Result, Ok, Err, IfOk, refl, sym, ◌∙◌, ap, subst, arith, not}
 use Rattle.std.specs.Int.{bit_at}
+use Rattle.std.specs.Option.{option_map_or}
+use Rattle.std.specs.Prelude.{if◌then◌else◌, is_none, is_some}
 use Rattle.std.proofs.lemmas.Bool.{cases_Bool, cases_lt, eq-eqb, eqb-true, false≢true}
 use Rattle.std.proofs.lemmas.Nat.Bits.{bit_at-zero}
 use Rattle.cell_core.specs.declared.man.Colour.{Colour}
@@ -9,13 +11,14 @@ use Rattle.cell_core.specs.declared.man.Kind.{Kind}
 use Rattle.cell_core.specs.declared.man.Kind.TheVariants.{King, Queen, Rook, Bishop, Knight, Pawn}
 use Rattle.cell_core.specs.declared.step.Move.{Move}
 use Rattle.cell_core.specs.Board.{Men, man_at}
-use Rattle.cell_core.specs.Man.{is_man, man}
+use Rattle.cell_core.specs.declared.man.Man.{Man}
+use Rattle.cell_core.specs.Man.{is_man, man, other, same_kind}
 use Rattle.cell_core.specs.Sets.{set_of}
 use Rattle.chess_laws.specs.declared.setup.Setup.{Setup}
 use Rattle.chess_laws.specs.declared.effect.Effect.{Effect}
 use Rattle.chess_laws.specs.declared.effect.Effect.TheVariants as effect
 use Rattle.chess_laws.specs.Attacks.{Reaches}
-use Rattle.chess_laws.specs.Geometry.{Offset, by, file_of, rank_of, shift, rook_steps, bishop_steps, knight_steps, Leaps, Runs, Walk}
+use Rattle.chess_laws.specs.Geometry.{Offset, by, file_of, forward, pawn_captures, rank_of, shift, rook_steps, bishop_steps, knight_steps, Leaps, Runs, Walk}
 use Rattle.chess_laws.specs.Position.{Sound}
 use Rattle.chess_laws.specs.Step.{effect_of, Case, GoesPlainly, Legal, Step, stepped}
 use Rattle.chess_laws.proofs.MovedKings.{legal-allowed}
@@ -32,7 +35,7 @@ use Rattle.chess_text.specs.SanAnswer.{san_answer}
 use Rattle.chess_text.specs.SanReading.{shape_named}
 use Rattle.chess_text.specs.SanReads.{Fits, has_own_form}
 use Rattle.chess_text.specs.SanSearch.{AnswersShape, IsOnly, StandsSo, step_on}
-use Rattle.chess_text.specs.SanStarts.{AreStarts, Covers, IsAmong, StandThere, StartsBut, StartsBy, StartsWith, and_one, gap, may_reach}
+use Rattle.chess_text.specs.SanStarts.{AreStarts, Covers, IsAmong, StandThere, StartsBut, StartsBy, StartsWith, and_one, gap, may_land, may_reach}
 use Rattle.chess_text.proofs.CameLaws.{StepOf, black_list, pawn-each, same-kind, stands-bit, white_list}
 use Rattle.chess_text.proofs.AnswerLaws.{san_is}
 use Rattle.chess_text.proofs.SearchLaws.{answer-first, answer-only, answers-text, only-from, same-from, shapeless}
@@ -151,6 +154,81 @@ reaches-target p g m h =
     subst (λ (b : ℕ). may_reach g.kind m.from b ≡ true) h.of_shape.target
     (reach-case p g.kind m (effect_of p m) h.of_shape.no_own_form h.of_shape.stands (legal-allowed p m h.legal))
 
+-- ---- where a man may land
+
+land-by : (k : Kind) (a b : Bool) → (same_kind k Pawn ≡ true → a || b ≡ true) → not (same_kind k Pawn) || (a || b) ≡ true
+land-by Pawn a b h = h refl
+land-by King a b h = refl
+land-by Queen a b h = refl
+land-by Rook a b h = refl
+land-by Bishop a b h = refl
+land-by Knight a b h = refl
+
+-- A pawn on the same file, on another, and en passant.
+land-on : (p : Setup) (a b : ℕ) → file_of a ≡ file_of b → man_at p.board b ≡ None → may_land p Pawn a b ≡ true
+land-on p a b file empty =
+    or-second (option_map_or (λ s. s == b) p.en_passant false) _ (rw (eq-eqb (file_of a) (file_of b) file, empty) refl)
+
+land-off : (p : Setup) (a b : ℕ) (x : Man) → (file_of a ≡ file_of b → ⊥) → man_at p.board b ≡ Some x → may_land p Pawn a b ≡ true
+land-off p a b x file there =
+    or-second (option_map_or (λ s. s == b) p.en_passant false) _ (rw (apart-false (file_of a) (file_of b) file, there) refl)
+  where
+    apart-false : (i j : ℕ) → (i ≡ j → ⊥) → (i == j) ≡ false
+    apart-false i j apart = elim (cases_Bool (eqb i j)) [
+      | inl same ↦ absurd (apart (eqb-true i j same))
+      | inr other ↦ other
+    ]
+
+land-passing : (p : Setup) (a b : ℕ) → p.en_passant ≡ Some b → may_land p Pawn a b ≡ true
+land-passing p a b target =
+    or-first (option_map_or (λ s. s == b) p.en_passant false) _ (rw target (eq-eqb b b refl))
+
+forward-file : (c : Colour) (a b : ℕ) → Leaps a b (forward c) → file_of a ≡ file_of b
+forward-file White a b leap = let d = shift-Some (forward White) a b leap in omega (arith, d.files)
+forward-file Black a b leap = let d = shift-Some (forward Black) a b leap in omega (arith, d.files)
+
+capture-file : (c : Colour) (a b : ℕ) → Any (Leaps a b) (pawn_captures c) → file_of a ≡ file_of b → ⊥
+capture-file White a b (zero, o, less, is, leap) same =
+    let d = shift-Some (by 1 0 1 0) a b (subst (Leaps a b) (sym is) leap) in omega (arith, same, d.files)
+capture-file White a b (suc zero, o, less, is, leap) same =
+    let d = shift-Some (by 0 1 1 0) a b (subst (Leaps a b) (sym is) leap) in omega (arith, same, d.files)
+capture-file White a b (suc (suc k), o, less, is, leap) same = omega (arith, less)
+capture-file Black a b (zero, o, less, is, leap) same =
+    let d = shift-Some (by 1 0 0 1) a b (subst (Leaps a b) (sym is) leap) in omega (arith, same, d.files)
+capture-file Black a b (suc zero, o, less, is, leap) same =
+    let d = shift-Some (by 0 1 0 1) a b (subst (Leaps a b) (sym is) leap) in omega (arith, same, d.files)
+capture-file Black a b (suc (suc k), o, less, is, leap) same = omega (arith, less)
+
+land-plainly : (p : Setup) (m : Move) → GoesPlainly p Pawn m → may_land p Pawn m.from m.to ≡ true
+land-plainly p m (inl steps) = land-on p m.from m.to (forward-file p.side m.from m.to steps.0) steps.1
+land-plainly p m (inr takes) = land-off p m.from m.to (man (other p.side) takes.1.0) (capture-file p.side m.from m.to takes.0) takes.1.1
+
+land-case : (p : Setup) (m : Move) (e : Effect) → has_own_form e ≡ false → man_at p.board m.from ≡ Some (man p.side Pawn) → Case p m e → may_land p Pawn m.from m.to ≡ true
+land-case p m effect.Plain own stands case =
+    land-plainly p m (subst (λ (k : Kind). GoesPlainly p k m) (same-kind p.side case.kind Pawn _ case.stands stands) case.goes)
+land-case p m effect.Double own stands case =
+    land-on p m.from m.to (forward-file p.side m.from case.walks.0 case.walks.1 ∙ forward-file p.side case.walks.0 m.to case.walks.3) case.target
+land-case p m effect.Passing own stands case = land-passing p m.from m.to case.target
+land-case p m (effect.Castle wing) own stands case = absurd (false≢true (sym own))
+land-case p m effect.Null own stands case = absurd (false≢true (sym own))
+
+pawn-kind : (k : Kind) → same_kind k Pawn ≡ true → k ≡ Pawn
+pawn-kind Pawn h = refl
+pawn-kind King h = absurd (false≢true h)
+pawn-kind Queen h = absurd (false≢true h)
+pawn-kind Rook h = absurd (false≢true h)
+pawn-kind Bishop h = absurd (false≢true h)
+pawn-kind Knight h = absurd (false≢true h)
+
+lands-there : (p : Setup) (g : Going) (m : Move) → Fits p (Goes g) m → may_land p g.kind m.from g.target ≡ true
+lands-there p g m h =
+    let target : ℕ = g.target in
+    land-by g.kind (option_map_or (λ s. s == target) p.en_passant false)
+    (if file_of m.from == file_of target then is_none (man_at p.board target) else is_some (man_at p.board target)) (λ pawn.
+    let kind = pawn-kind g.kind pawn in
+    subst (λ (b : ℕ). may_land p Pawn m.from b ≡ true) h.of_shape.target
+    (land-case p m (effect_of p m) h.of_shape.no_own_form (subst (λ (k : Kind). man_at p.board m.from ≡ Some (man p.side k)) kind h.of_shape.stands) (legal-allowed p m h.legal)))
+
 -- ---- square by square
 
 passed-by : (p : Setup) (g : Going) (s : ℕ) (starts : Starts) → ((m : Move) → Fits p (Goes g) m → m.from ≡ s → ⊥) → StartsWith p g s starts starts
@@ -166,6 +244,11 @@ pub too_far : (p : Setup) (g : Going) (s : ℕ) (starts : Starts) (b : Bool) →
 too_far p g s starts b is missed =
     passed-by p g s starts (λ m fits from.
     false≢true (sym missed ∙ (is ∙ subst (λ (a : ℕ). may_reach g.kind a g.target ≡ true) from (reaches-target p g m fits))))
+
+pub no_landing : (p : Setup) (g : Going) (s : ℕ) (starts : Starts) (b : Bool) → b ≡ may_land p g.kind s g.target → b ≡ false → StartsWith p g s starts starts
+no_landing p g s starts b is missed =
+    passed-by p g s starts (λ m fits from.
+    false≢true (sym missed ∙ (is ∙ subst (λ (a : ℕ). may_land p g.kind a g.target ≡ true) from (lands-there p g m fits))))
 
 stand-more : (p : Setup) (g : Going) (s : ℕ) (starts : Starts) → StandsSo p g s → StandThere p g (and_one starts s)
 stand-more p g s of.None so = so

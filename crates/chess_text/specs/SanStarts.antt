@@ -1,6 +1,9 @@
 -- From which squares a man may go as a text says. No public contract cites these words.
-use Rattle.std.specs.Prelude.{◌≡◌, ℕ, ◌<◌, ◌+◌, ◌-◌, ◌==◌, ◌||◌, Bool, true, List, ⊤}
+use Rattle.std.specs.Prelude.{◌≡◌, ℕ, ◌<◌, ◌+◌, ◌-◌, ◌==◌, ◌||◌, not, if◌then◌else◌, Bool, true, false, List, is_none, is_some, ⊤}
 use Rattle.std.specs.Int.{bit_at}
+use Rattle.std.specs.Option.{option_map_or}
+use Rattle.cell_core.specs.Board.{man_at}
+use Rattle.cell_core.specs.Man.{same_kind}
 use Rattle.cell_core.specs.declared.man.Kind.{Kind}
 use Rattle.cell_core.specs.declared.man.Kind.TheVariants.{King, Queen, Rook, Bishop, Knight, Pawn}
 use Rattle.cell_core.specs.declared.step.Move.{Move}
@@ -22,6 +25,13 @@ may_reach Rook a b = (gap (file_of a) (file_of b) == 0) || (gap (rank_of a) (ran
 may_reach Bishop a b = gap (file_of a) (file_of b) == gap (rank_of a) (rank_of b)
 may_reach Knight a b = gap (file_of a) (file_of b) + gap (rank_of a) (rank_of b) == 3
 may_reach _ a b = true
+
+-- Whether a man of this kind may land there: a pawn keeps its file just where no man stands on its target, unless it captures en passant.
+abbrev pub may_land : Setup → Kind → ℕ → ℕ → Bool
+may_land p k a b =
+    not (same_kind k Pawn)
+    || (option_map_or (λ s. s == b) p.en_passant false
+    || (if file_of a == file_of b then is_none (man_at p.board b) else is_some (man_at p.board b)))
 
 -- These squares and one more.
 abbrev pub and_one : Starts → ℕ → Starts

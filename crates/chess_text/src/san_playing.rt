@@ -1,5 +1,5 @@
 //! Moves read from Standard Algebraic Notation and played at once.
-ghost use Rattle.std.specs.Prelude.{◌≡◌, ◌<◌, ◌+◌, ◌-◌, false, IfOk, IfErr, Some, length};
+ghost use Rattle.std.specs.Prelude.{◌≡◌, ◌<◌, false, IfOk, IfErr, Some, length};
 ghost use Rattle.std.specs.Bool.{OnFalse, OnTrue};
 ghost use Rattle.cell_core.specs.Board.{man_at};
 ghost use Rattle.cell_core.specs.Man.{man};
@@ -10,7 +10,7 @@ ghost use Rattle.chess_text.specs.declared.shape.Shape.TheVariants.{Goes};
 ghost use Rattle.chess_text.specs.SanAnswer.{san_answer};
 ghost use Rattle.chess_text.specs.SanReads.{Fits, has_own_form};
 ghost use Rattle.chess_text.specs.SanSearch.{AnswersShape, StandsSo};
-ghost use Rattle.chess_text.specs.SanStarts.{AreStarts, StartsBy, StartsWith, and_one, may_reach};
+ghost use Rattle.chess_text.specs.SanStarts.{AreStarts, StartsBy, StartsWith, and_one, gap, may_land, may_reach};
 
 use super::fault::SanFault;
 use super::ones::{lowest, without};
@@ -199,6 +199,9 @@ fn with_start(starts: Starts, p: &Setup, g: &Going, from: Square) -> Starts
     if !may_reach(g.kind, from, g.target) {
         return starts;
     }
+    if !may_land(p, g.kind, from, g.target) {
+        return starts;
+    }
     and_one(starts, from)
 }
 
@@ -230,10 +233,25 @@ fn may_reach(kind: Kind, from: Square, to: Square) -> bool
     }
 }
 
+// Whether a man of this kind may land there: a pawn keeps its file just where no man stands on its target, unless it captures en passant.
+#[inline(always)]
+fn may_land(p: &Setup, kind: Kind, from: Square, to: Square) -> bool
+    ensures { result ≡ may_land p.now kind from to }
+{
+    if kind != Kind::Pawn || p.en_passant == Some(to) {
+        return true;
+    }
+    if from.index() % 8 == to.index() % 8 {
+        p.board.at(to).is_none()
+    } else {
+        p.board.at(to).is_some()
+    }
+}
+
 // How far two files or ranks are apart.
 #[inline(always)]
 fn gap(a: u8, b: u8) -> u8
-    ensures { result ≡ (a - b) + (b - a) }
+    ensures { result ≡ gap a b }
 {
     a.abs_diff(b)
 }
