@@ -19,11 +19,11 @@ use crate::base::Base;
 use crate::checking::differing;
 use crate::fault::{EditError, unread_error};
 use base_files::{Extent, Files};
-use game_codec::decode_game;
+use game_codec::{Decoded, decode_game};
 use game_tree::{Game, Head, HeadRef, Tag, Tags, settle};
 use index_entry::Entry;
 use name_base::{NameKind, Names};
-use sig_index::{HomeList, Sig, sig_of, signed};
+use sig_index::{HomeList, Sig, sig_ending, signed};
 use std::alloc::{AllocError, Global};
 
 impl Base {
@@ -187,11 +187,11 @@ fn read_unchanged(
     ensures tags { IfOk result (λ read. All IsTag read.1.items) }
     ensures why { IfErr result (TellsChange i (sig_in e.now) bytes.now) }
 {
-    let (game, tags) = match decode_game(alloc, bytes) {
-        Ok(read) => read,
+    let Decoded { game, tags, last } = match decode_game(alloc, bytes) {
+        Ok(decoded) => decoded,
         Err(error) => return Err(unread_error(i, sig_in(e), error)),
     };
-    let found = sig_of(&game);
+    let found = sig_ending(&game, &last);
     if differing(e, &found).is_some() {
         return Err(EditError::Changed {
             game: i,

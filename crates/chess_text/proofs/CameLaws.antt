@@ -68,7 +68,7 @@ not_there p q g s found b same is missed fits = record {
 
 -- ---- how a man goes that has no form of its own
 
-same-kind : (c : Colour) (j k : Kind) (x : Option Man) → x ≡ Some (man c j) → x ≡ Some (man c k) → j ≡ k
+pub same-kind : (c : Colour) (j k : Kind) (x : Option Man) → x ≡ Some (man c j) → x ≡ Some (man c k) → j ≡ k
 same-kind c j k x h e = man-kind c c j k (sym h ∙ e)
 
 -- A pawn goes one square forward, two, or diagonally.
@@ -103,12 +103,12 @@ abbrev pub black_list : List ℕ
 black_list = 8 ∷ 16 ∷ 7 ∷ 9 ∷ []
 
 -- one of the steps of a list leads from the target to the square
-record StepOf (steps : List ℕ) (a b : ℕ) : Type 0 where
-  place : ℕ
-  less : place < length steps
-  is : a ≡ step_on steps b place
+pub record StepOf (steps : List ℕ) (a b : ℕ) : Type 0 where
+  pub place : ℕ
+  pub less : place < length steps
+  pub is : a ≡ step_on steps b place
 
-abbrev pawn-list : Colour → List ℕ
+abbrev pub pawn-list : Colour → List ℕ
 pawn-list White = white_list
 pawn-list Black = black_list
 
@@ -162,7 +162,7 @@ by-step p g steps found h each = record {
       h.known step.place step.less m fits (step.is ∙ ap (λ (t : ℕ). step_on steps t step.place) fits.of_shape.target);
 }
 
-pawn-each : (p : Setup) (g : Going) (c : Colour) (m : Move) → Sound p → g.kind ≡ Pawn → p.side ≡ c → Fits p (Goes g) m → StepOf (pawn-list c) m.from m.to
+pub pawn-each : (p : Setup) (g : Going) (c : Colour) (m : Move) → Sound p → g.kind ≡ Pawn → p.side ≡ c → Fits p (Goes g) m → StepOf (pawn-list c) m.from m.to
 pawn-each p g c m sound kind side fits =
     subst (λ (c : Colour). StepOf (pawn-list c) m.from m.to) side
     (pawn-step p m.from m.to (starts-below p g m sound fits) (came p g m kind fits))
@@ -182,7 +182,7 @@ black_all p q g r sound same kind side =
 -- ---- man by man
 
 -- at the beginning all men of the kind are left
-stands-bit : (p : Setup) (g : Going) (m : Move) → Fits p (Goes g) m → bit_at (set_of (is_man p.side g.kind) p.board) m.from ≡ 1
+pub stands-bit : (p : Setup) (g : Going) (m : Move) → Fits p (Goes g) m → bit_at (set_of (is_man p.side g.kind) p.board) m.from ≡ 1
 stands-bit p g m h =
     rw (bit-set_of (is_man p.side g.kind) refl p.board m.from, h.of_shape.stands, is_man-true p.side g.kind) refl
 

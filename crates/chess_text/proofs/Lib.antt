@@ -9,6 +9,7 @@ pub mod ShapeLaws
 pub mod SearchLaws
 pub mod OnesLaws
 pub mod CameLaws
+pub mod StartLaws
 pub mod PawnLaws
 pub mod WrittenSan
 pub mod RivalLaws

@@ -15,6 +15,7 @@ pub mod Ones
 pub mod SanReading
 pub mod SanParts
 pub mod SanSearch
+pub mod SanStarts
 pub mod San
 pub mod SanWriting
 pub mod SanText

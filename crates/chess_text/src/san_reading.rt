@@ -17,10 +17,10 @@ use cell_core::{Colour, Kind, Man, Move, Square};
 use chess_laws::{Effect, Position, Setup, Wing, king_target};
 
 // From the target of a white pawn: one square back, two, and back to the left and to the right.
-const WHITE_PAWN_STEPS: [u8; 4] = [56, 48, 55, 57];
+pub(crate) const WHITE_PAWN_STEPS: [u8; 4] = [56, 48, 55, 57];
 
 // The same of a black pawn.
-const BLACK_PAWN_STEPS: [u8; 4] = [8, 16, 7, 9];
+pub(crate) const BLACK_PAWN_STEPS: [u8; 4] = [8, 16, 7, 9];
 
 /// Reads a move in Standard Algebraic Notation (PGN standard, 8.2.3). Castling is `O-O`, `O-O-O`, `0-0` or `0-0-0`, and
 /// the null move is `--`. The text of any other move has these parts in this order, of which only the target square
@@ -64,7 +64,7 @@ fn read(p: &Position, setup: &Setup, text: &[u8]) -> Result<Move, SanFault>
 }
 
 // The one legal move of the shape.
-fn move_of(p: &Position, setup: &Setup, shape: &Shape) -> Result<Move, SanFault>
+pub(crate) fn move_of(p: &Position, setup: &Setup, shape: &Shape) -> Result<Move, SanFault>
     requires same { setup.now ≡ p.now }
     requires sound { Sound p.now }
     ensures answers { AnswersShape p.now shape.now result }
@@ -227,7 +227,7 @@ fn from_square(p: &Position, g: &Going, from: Square) -> Option<Move>
 
 // Whether such a man stands on the square, as far as the text says where.
 #[inline(always)]
-fn stands_so(p: &Setup, g: &Going, s: Square) -> bool
+pub(crate) fn stands_so(p: &Setup, g: &Going, s: Square) -> bool
     ensures answers { IsTrue result ↔ StandsSo p.now g.now s }
 {
     let man = Man {
@@ -250,7 +250,7 @@ fn is_as_said(line: u8, said: &Option<u8>) -> bool
 }
 
 // Whether the move has a form of its own.
-fn has_own_form(effect: Effect) -> bool
+pub(crate) fn has_own_form(effect: Effect) -> bool
     ensures exact { result ≡ has_own_form effect }
 {
     matches!(effect, Effect::Castle(_) | Effect::Null)

@@ -4,6 +4,7 @@ use Rattle.std.specs.Prelude.{IsSome}
 use Rattle.std.proofs.lemmas.List.{drop_at}
 use Rattle.std.proofs.lemmas.List.Elements.{All-append, All-nil, All-push}
 use Rattle.cell_core.specs.Text.{IsZeroFree}
+use Rattle.chess_laws.specs.declared.setup.Setup.{Setup}
 use Rattle.game_tree.specs.Building.{Building, Gives, Open as Line, added, built, closed as shut, opening, variation_of as variation_read, with_comment_on, more_nags, with_variation, more_variations}
 use Rattle.game_tree.specs.Item.{Item}
 use Rattle.game_tree.specs.Item as item
@@ -14,14 +15,16 @@ use Rattle.game_codec.specs.Adding.{Adds}
 use Rattle.game_codec.specs.Dealing.{Deals, IsTreeOf}
 use Rattle.game_codec.specs.Fitting.{MayAdd}
 use Rattle.game_codec.specs.Following.{HasFollowed}
+use Rattle.game_codec.specs.Leading.{Leads, LeadsOn}
 use Rattle.game_codec.specs.Moves.{SpellsMoves}
 use Rattle.game_codec.specs.Nests.{IsPast, token_of}
-use Rattle.game_codec.specs.Place.{Place, Takes, beginning, variation_of}
+use Rattle.game_codec.specs.Place.{Place, Takes, after_comment, after_move, beginning, variation_of}
 use Rattle.game_codec.specs.Scanning.{comments_in, dealt, tokens_then}
 use Rattle.game_codec.specs.Texts.{ended}
 use Rattle.game_codec.specs.Token.{Token, Play, Nag, Comment, Open, Close, End}
 use Rattle.game_codec.specs.declared.token.Token.{Token as Read}
 use Rattle.game_codec.specs.declared.token.Token.TheVariants as read
+use Rattle.game_codec.proofs.LeadLaws.{kept-here, leads-comment, leads-move, leads-nag, leads-variation}
 use Rattle.game_codec.proofs.LineLaws.{HasFollowed-none, LineSpelled, by_close, by_comment, by_end, by_move, by_nag, by_variation}
 use Rattle.game_codec.proofs.MovetextLaws.{spelled-scans}
 
@@ -104,6 +107,7 @@ pub record HasBuilt (start : Place) (bytes : List ℕ) (now : Place) (rest texts
   pub deals : Deals tokens texts left before b
   pub outer : b.outer ≡ before.outer
   pub moved : IsTrue now.has_move → IsSome b.current.last
+  pub leads : LeadsOn start before now b
 
 pub HasBuilt-none : (start : Place) (bytes texts : List ℕ) (b : Building) → (IsTrue start.has_move → IsSome b.current.last) → HasBuilt start bytes start bytes texts texts b b
 HasBuilt-none start bytes texts b moved = record {
@@ -112,6 +116,7 @@ HasBuilt-none start bytes texts b moved = record {
   deals = Deals-none texts b;
   outer = refl;
   moved = moved;
+  leads = λ from led. led;
 }
 
 some-nag : (n : ℕ) (last : Option Played) → IsSome last → IsSome (option_map (more_nags n) last)
@@ -142,8 +147,9 @@ module _ (start : Place) (bytes : List ℕ) (now : Place) (rest texts left : Lis
       may read.End u none = tt
 
   one : (token : Token) (spent : ℕ) (next : Building) (behind : List ℕ) → HasFollowed start bytes after later (has.tokens ++ token ∷ []) → Adds token left b spent next → behind ≡ drop spent left
-      → next.outer ≡ b.outer → (IsTrue after.has_move → IsSome next.current.last) → HasBuilt start bytes after later texts behind before next
-  one token spent next behind followed adds behind_is round moved = record {
+      → next.outer ≡ b.outer → (IsTrue after.has_move → IsSome next.current.last) → ((from : Setup) → Leads from b now.here.position → Leads from next after.here.position)
+      → HasBuilt start bytes after later texts behind before next
+  one token spent next behind followed adds behind_is round moved led = record {
     tokens = has.tokens ++ token ∷ [];
     followed = followed;
     deals =
@@ -151,7 +157,13 @@ module _ (start : Place) (bytes : List ℕ) (now : Place) (rest texts left : Lis
         Deals-then has.tokens (token ∷ []) texts left behind before b next has.deals (subst D (sym behind_is) (Deals-one token left spent b next adds));
     outer = round ∙ has.outer;
     moved = moved;
+    leads = λ from first. led from (has.leads from first);
   }
+
+  -- The place stays where it is.
+  stays : (next : Building) → after.here ≡ now.here → ((from to : Setup) → Leads from b to → Leads from next to) → (from : Setup) → Leads from b now.here.position
+      → Leads from next after.here.position
+  stays next same led from first = led from now.here.position first ∙ ap (λ (n : Numbered). n.position) (sym same)
 
   pub built-one : (spent : ℕ) (next : Building) (behind : List ℕ) → (t ≡ read.Open → ⊥) → (t ≡ read.Close → ⊥) → (t ≡ read.End → ⊥) → Adds (token_of t) left b spent next → behind ≡ drop spent left
       → HasBuilt start bytes after later texts behind before next
@@ -161,16 +173,22 @@ module _ (start : Place) (bytes : List ℕ) (now : Place) (rest texts left : Lis
       by (read.Play m) is o c e adds =
           one (Play m) spent next behind (by_move start bytes now rest has.tokens has.followed used fits t takes after past later later_is m is) adds behind_is
           (ap (λ (n : Building). n.outer) adds.1) (λ yes. rw adds.1 refl)
+          (λ from first.
+          leads-move from b next now.here after.here m adds.1
+          (kept-here (after_move now m) after (drop used rest) (subst (λ (v : Read). IsPast now (token_of v) after (drop used rest)) is past)) first)
       by (read.Nag n) is o c e adds =
           let same : after ≡ now = subst (λ (v : Read). IsPast now (token_of v) after (drop used rest)) is past in
           one (Nag n) spent next behind (by_nag start bytes now rest has.tokens has.followed used fits t takes after past later later_is n is) adds behind_is
           (ap (λ (n : Building). n.outer) adds.1)
           (λ yes. rw adds.1 (some-nag n b.current.last (has.moved (subst (λ (p : Place). IsTrue p.has_move) same yes))))
+          (stays next (ap (λ (p : Place). p.here) same) (λ from to. leads-nag from to b next n adds.1))
       by read.Comment is o c e adds =
-          let same : after.has_move ≡ now.has_move = ap (λ (p : Place). p.has_move) (subst (λ (v : Read). IsPast now (token_of v) after (drop used rest)) is past) in
+          let behind_comment : after ≡ after_comment now = subst (λ (v : Read). IsPast now (token_of v) after (drop used rest)) is past in
+          let same : after.has_move ≡ now.has_move = ap (λ (p : Place). p.has_move) behind_comment in
           one Comment spent next behind (by_comment start bytes now rest has.tokens has.followed used fits t takes after past later later_is is) adds behind_is
           (ap (λ (n : Building). n.outer) adds.1.1)
           (λ yes. rw adds.1.1 (some-comment (as_comment adds.0) b.current.lead b.current.done b.current.last (has.moved (rw (← same) yes))))
+          (stays next (ap (λ (p : Place). p.here) behind_comment) (λ from to. leads-comment from to b next adds.0 adds.1.1))
       by read.Open is o c e adds = absurd (o refl)
       by read.Close is o c e adds = absurd (c refl)
       by read.End is o c e adds = absurd (e refl)
@@ -199,6 +217,8 @@ module _ (start : Place) (bytes : List ℕ) (now : Place) (rest texts left : Lis
             (Deals-then (tokens_then s []) (Close ∷ []) left behind behind opened inner closed (subst D (sym behind_is) line.1.1) closes));
         outer = ap (λ (n : Building). n.outer) ends ∙ has.outer;
         moved = λ yes. rw ends (some-variation (variation_read inner.current) b.current.last (has.moved (subst (λ (q : Place). IsTrue q.has_move) same yes)));
+        leads = λ from first.
+            stays closed (ap (λ (q : Place). q.here) same) (λ f to. leads-variation f to b closed (variation_read inner.current) ends) from (has.leads from first);
       }
 
   spelled : LineSpelled start bytes (length bytes - length later) has.tokens
@@ -215,6 +235,17 @@ module _ (start : Place) (bytes : List ℕ) (now : Place) (rest texts left : Lis
   pub built-end : t ≡ read.End
       → (s : Movetext) × (SpellsMoves start s bytes (drop (length bytes - length later) bytes) × Deals (tokens_then s []) texts (drop (length texts - length left) texts) before b)
   built-end is = spelled (by_end start bytes now rest has.tokens has.followed used fits t takes after past later later_is is)
+
+  -- An end leaves the place and the tree as they are.
+  pub leads-close : t ≡ read.Close → LeadsOn start before after b
+  leads-close is from first =
+      let same : after ≡ now = subst (λ (v : Read). IsPast now (token_of v) after (drop used rest)) is past in
+      has.leads from first ∙ ap (λ (q : Place). q.here.position) (sym same)
+
+  pub leads-end : t ≡ read.End → LeadsOn start before after b
+  leads-end is from first =
+      let same : after ≡ now = subst (λ (v : Read). IsPast now (token_of v) after (drop used rest)) is past in
+      has.leads from first ∙ ap (λ (q : Place). q.here.position) (sym same)
 
 -- What a line takes, by the numbers that are given.
 pub line-is : (start : Place) (bytes texts : List ℕ) (moves spent moves' spent' : ℕ) (before b : Building) → moves' ≡ moves → spent' ≡ spent

@@ -11,6 +11,7 @@ pub mod ScanLaws
 pub mod MovetextLaws
 pub mod KeptLaws
 pub mod LineLaws
+pub mod LeadLaws
 pub mod DealLaws
 pub mod LegalLaws
 pub mod ShortLaws

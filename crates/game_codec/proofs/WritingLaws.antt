@@ -151,11 +151,11 @@ pub end-all : (n : Numbered) (line : List Played) (i : ℕ) (last : Setup) → l
     → n.position ≡ last
 end-all n line i last over before = ap (λ (ps : List Played). fold stepped n.position (moves_of (line_of ps))) (sym (drop_all i line over)) ∙ before
 
-pub game-ends : (game : GameTree) (line : List Played) (start : Setup) (last : Numbered) → game.line ≡ line_of line → start ≡ game.start
-    → last.position ≡ fold stepped start (moves_of (line_of line)) → last.position ≡ position_at game (plies_of game)
+pub game-ends : (game : GameTree) (line : Line) (start last : Setup) → game.line ≡ line → start ≡ game.start → last ≡ fold stepped start (moves_of line)
+    → last ≡ position_at game (plies_of game)
 game-ends game line start last same at leads =
     leads
-    ∙ ap (λ (p : Setup). fold stepped p (moves_of (line_of line))) at
+    ∙ ap (λ (p : Setup). fold stepped p (moves_of line)) at
     ∙ ap (λ (l : Line). fold stepped game.start (moves_of l)) (sym same)
     ∙ ap (λ (moves : List Move). fold stepped game.start moves) (sym (take_all (plies_of game) (main_moves game) (omega arith)))
 

@@ -17,6 +17,7 @@ pub mod Nests
 pub mod Adding
 pub mod Fitting
 pub mod Dealing
+pub mod Leading
 pub mod Flat
 pub mod Walk
 pub mod Walking

@@ -1,9 +1,12 @@
 //! Making the tree of a record's game in one pass over its moves and its texts.
-ghost use Rattle.std.specs.Prelude.{◌≡◌, ◌-◌, ◌≤◌, ℕ, [], IsSome, IsTrue, List, drop, length, IfOk, OnOk};
+ghost use Rattle.std.specs.Prelude.{◌≡◌, ◌-◌, ◌≤◌, ℕ, [], IsSome, IsTrue, List, drop, fold, length, IfOk, OnOk};
+ghost use Rattle.chess_laws.specs.Step.{stepped};
 ghost use Rattle.game_tree.specs.Movetext.{Movetext};
+ghost use Rattle.game_tree.specs.Tree.{moves_of};
 ghost use Rattle.game_codec.specs.Adding.{Adds};
 ghost use Rattle.game_codec.specs.Dealing.{Deals, IsTreeOf};
 ghost use Rattle.game_codec.specs.Fitting.{MayAdd};
+ghost use Rattle.game_codec.specs.Leading.{LeadsOn};
 ghost use Rattle.game_codec.specs.Moves.{SpellsMoves};
 ghost use Rattle.game_codec.specs.Nests.{token_of};
 ghost use Rattle.game_codec.specs.Scanning.{tokens_then};
@@ -15,6 +18,7 @@ use super::texts::zero_at;
 use super::token::Token;
 use super::tokens::next_token;
 use cell_core::Text;
+use chess_laws::Position;
 use game_tree::{Branch, Builder};
 use move_codec::Numbered;
 use std::alloc::Global;
@@ -41,24 +45,31 @@ impl Taken {
     }
 }
 
+/// The tree of a game, and the position in which its main line ends.
+#[derive(Drop)]
+pub(crate) struct Built {
+    pub(crate) branch: Branch,
+    pub(crate) last: Position,
+}
+
 /// Makes the tree of a game from its moves, which begin here, and the texts of its comments, which follow. The texts end where the
 /// record does.
-pub(crate) fn build(alloc: Global, start: &Numbered, bytes: &[u8]) -> Result<Branch, Unread>
-    ensures ok { IfOk result (IsTreeOf start.now bytes.now) }
+pub(crate) fn build(alloc: Global, start: &Numbered, bytes: &[u8]) -> Result<Built, Unread>
+    ensures ok { IfOk result (λ built. IsTreeOf start.now bytes.now built.branch) }
+    ensures last { IfOk result (λ built. built.last ≡ fold stepped start.now.position (moves_of built.branch.line)) }
 {
     let (_, texts) = bytes.split_at(moves_len(bytes));
     let mut builder = Builder::new(alloc);
-    let taken = build_line(
-        alloc,
-        Place::beginning(0, start),
-        bytes,
-        texts,
-        &mut builder,
-    )?;
+    let mut place = Place::beginning(0, start);
+    let taken = build_line(alloc, &mut place, bytes, texts, &mut builder)?;
     if bytes.len() - taken.moves != texts.len() || taken.texts != texts.len() {
         return Err(Unread);
     }
-    Ok(builder.finish(alloc)?)
+    let branch = builder.finish(alloc)?;
+    Ok(Built {
+        branch,
+        last: *place.position(),
+    })
 }
 
 // How many bytes the moves of a record take with the end of the game, if they have no fault: up to the first byte 15 that is not the
@@ -77,31 +88,33 @@ fn moves_len(bytes: &[u8]) -> usize
     bytes.len()
 }
 
-// Adds a line from its beginning to its end, and its variations by a call of itself. Each comment has the next of the texts.
+// Adds a line from its beginning to its end, where the place is then, and its variations by a call of itself. Each comment has the next
+// of the texts.
 fn build_line(
     alloc: Global,
-    place: Place,
+    place: &mut Place,
     bytes: &[u8],
     texts: &[u8],
     builder: &mut Builder,
 ) -> Result<Taken, Unread>
-    requires moved { IsTrue place.has_move → IsSome builder.old.current.last }
-    ensures built { IfOk result (λ taken. (s : Movetext) × (SpellsMoves place s bytes.now (drop taken.moves bytes.now)
+    requires moved { IsTrue place.old.has_move → IsSome builder.old.current.last }
+    ensures built { IfOk result (λ taken. (s : Movetext) × (SpellsMoves place.old s bytes.now (drop taken.moves bytes.now)
         × Deals (tokens_then s []) texts.now (drop taken.texts texts.now) builder.old builder.new)) }
+    ensures leads { OnOk result (LeadsOn place.old builder.old place.new builder.new) }
     ensures moves { IfOk result (λ taken. taken.moves ≤ length bytes.now) }
     ensures texts { IfOk result (λ taken. taken.texts ≤ length texts.now) }
     ensures outer { OnOk result (builder.new.outer ≡ builder.old.outer) }
 {
-    let mut here = place;
     let mut rest = bytes;
     let mut left = texts;
     'items: loop {
-        let next = next_token(&mut here, rest)?;
+        let next = next_token(place, rest)?;
         rest = rest.split_at(next.used).1;
         match next.token {
             Token::Open => {
                 builder.open(alloc)?;
-                let taken = build_line(alloc, here.variation(), rest, left, builder)?;
+                let mut inner = place.variation();
+                let taken = build_line(alloc, &mut inner, rest, left, builder)?;
                 rest = rest.split_at(taken.moves).1;
                 left = left.split_at(taken.texts).1;
                 builder.close(alloc)?;

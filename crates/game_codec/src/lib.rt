@@ -28,7 +28,7 @@ mod walk;
 
 pub use all_walk::AllWalk;
 pub use checking::first_fault;
-pub use decoding::decode_game;
+pub use decoding::{Decoded, decode_game};
 pub use encoding::{Encoded, encode_game, encode_to_end};
 pub use event_date::event_date_in;
 pub use fault::{DecodeError, EncodeError, RecordFault, RecordWhat};

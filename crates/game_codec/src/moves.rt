@@ -99,7 +99,9 @@ fn put_node(body: &mut Body, position: &Numbered, node: &Node) -> Result<(), All
     Ok(())
 }
 
-// Adds the variations of a move, which begin at the position before it.
+// Adds the variations of a move, which begin at the position before it. It stands apart, so that a move without one has no room made for
+// the copy of the position.
+#[inline(never)]
 #[cycle(lines)]
 fn put_variations(
     body: &mut Body,

@@ -1,13 +1,15 @@
 //! A place in a line of a record's moves, as it is while they are read.
 ghost use Rattle.std.specs.Prelude.{◌≡◌, ◌+◌, ◌<◌, ◌≤◌, ◌⊎◌, ◌↔◌, IsTrue, length, drop, IfOk, IfErr};
-ghost use Rattle.std.specs.Bool.{OnFalse};
+ghost use Rattle.std.specs.Bool.{OnFalse, OnTrue};
 ghost use Rattle.game_tree.specs.Legal.{deepest};
 ghost use Rattle.game_codec.specs.Place.{beginning, variation_of, after_comment, FaultAt, IsMoveDue, Takes};
 ghost use Rattle.game_codec.specs.Nests.{Hangs, IsCalm, IsCalmBehind, IsKept, IsPast, token_of, with_before};
+ghost use Rattle.game_codec.specs.Token.{Play};
 
 use super::fault::RecordWhat;
 use super::token::Token;
 use super::tokens::NextToken;
+use cell_core::Move;
 use chess_laws::Position;
 use move_codec::Numbered;
 use std::marker::Model;
@@ -89,12 +91,13 @@ impl Place {
         self.has_comment = true;
     }
 
-    /// Reads the move that the bytes begin with, and goes on behind it.
-    pub(crate) fn next_move(&mut self, bytes: &[u8]) -> Result<NextToken, RecordWhat>
+    /// Reads the move that the bytes begin with, and goes on behind it. Gives it with the number of its bytes.
+    #[inline(always)]
+    pub(crate) fn play(&mut self, bytes: &[u8]) -> Result<(Move, usize), RecordWhat>
         requires due { IsMoveDue bytes.now }
-        ensures takes { IfOk result (λ next. Takes self.old bytes.now (token_of next.token) (drop next.used bytes.now)) }
-        ensures used { IfOk result (λ next. (0 < next.used) × (next.used ≤ length bytes.now)) }
-        ensures past { IfOk result (λ next. IsPast self.old (token_of next.token) self.new (drop next.used bytes.now)) }
+        ensures takes { IfOk result (λ next. Takes self.old bytes.now (Play next.0) (drop next.1 bytes.now)) }
+        ensures used { IfOk result (λ next. (0 < next.1) × (next.1 ≤ length bytes.now)) }
+        ensures past { IfOk result (λ next. IsPast self.old (Play next.0) self.new (drop next.1 bytes.now)) }
         ensures fault { IfErr result (FaultAt self.old bytes.now) }
         ensures kept { IfErr result (λ _. IsKept self.old self.new bytes.now) }
     {
@@ -103,12 +106,27 @@ impl Place {
             Ok((m, used)) => {
                 self.has_move = true;
                 self.has_comment = false;
-                Ok(NextToken {
-                    token: Token::Play(m),
-                    used: usize::from(used),
-                })
+                Ok((m, usize::from(used)))
             }
             Err(fault) => Err(RecordWhat::Move(fault)),
+        }
+    }
+
+    /// The same as an item.
+    pub(crate) fn next_move(&mut self, bytes: &[u8]) -> Result<NextToken, RecordWhat>
+        requires due { IsMoveDue bytes.now }
+        ensures takes { IfOk result (λ next. Takes self.old bytes.now (token_of next.token) (drop next.used bytes.now)) }
+        ensures used { IfOk result (λ next. (0 < next.used) × (next.used ≤ length bytes.now)) }
+        ensures past { IfOk result (λ next. IsPast self.old (token_of next.token) self.new (drop next.used bytes.now)) }
+        ensures fault { IfErr result (FaultAt self.old bytes.now) }
+        ensures kept { IfErr result (λ _. IsKept self.old self.new bytes.now) }
+    {
+        match self.play(bytes) {
+            Ok((m, used)) => Ok(NextToken {
+                token: Token::Play(m),
+                used,
+            }),
+            Err(what) => Err(what),
         }
     }
 
@@ -129,6 +147,16 @@ impl Place {
         ensures kept { self.new ≡ with_before self.old.here self.old }
     {
         self.before = self.here.copy();
+    }
+}
+
+/// Whether the bytes begin with a move, as far as the first one tells.
+pub(crate) fn is_move_due(bytes: &[u8]) -> bool
+    ensures due { OnTrue result (IsMoveDue bytes.now) }
+{
+    match bytes {
+        [] => false,
+        [byte, ..] => *byte < 11 || 15 < *byte,
     }
 }
 

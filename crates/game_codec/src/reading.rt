@@ -6,7 +6,7 @@ ghost use Rattle.game_tree.specs.Replay.{next_at, plies_of, position_at};
 ghost use Rattle.game_tree.specs.declared.head.Tag.{Tag as TagValue};
 ghost use Rattle.game_codec.specs.Fault.{IsRecordFault};
 ghost use Rattle.game_codec.specs.Reading.{BreaksLine, BreaksRecord, Does, Ends, Finishes, Passes, Plays, Reads};
-ghost use Rattle.game_codec.specs.Place.{Takes};
+ghost use Rattle.game_codec.specs.Place.{IsMoveDue, Takes};
 ghost use Rattle.game_codec.specs.Record.{IsRecord};
 ghost use Rattle.game_codec.specs.Tallying.{added, size_of};
 ghost use Rattle.game_codec.specs.Token.{Open};
@@ -15,7 +15,7 @@ ghost use Rattle.game_codec.specs.Totals.{AreTotals};
 use super::breach::Breach;
 use super::checking::{check_line, check_texts};
 use super::fault::RecordFault;
-use super::place::Place;
+use super::place::{Place, is_move_due};
 use super::tally::Tally;
 use super::token::Token;
 use super::tokens::next_token;
@@ -193,8 +193,45 @@ impl<'a> At<'a> {
         }
     }
 
-    // Goes behind the next item of the main line, unless that is its end.
+    // Goes behind the next item of the main line, unless that is its end. Most items are moves.
+    #[inline(always)]
     fn item(&mut self) -> Result<Item, Breach>
+        requires main { self.old.place.depth ≡ 0 }
+        requires room { size_of self.old.tally + length self.old.rest.now ≤ usize.MAX }
+        ensures does { IfOk result (λ item. Does self.old item self.new) }
+        ensures fault { IfErr result (BreaksLine self.old) }
+        ensures passes { IfErr result (λ _. Passes self.old self.new) }
+    {
+        if is_move_due(self.rest) {
+            return self.play();
+        }
+        self.other_item()
+    }
+
+    // The same where a move is due.
+    #[inline(always)]
+    fn play(&mut self) -> Result<Item, Breach>
+        requires due { IsMoveDue self.old.rest.now }
+        ensures does { IfOk result (λ item. Does self.old item self.new) }
+        ensures fault { IfErr result (BreaksLine self.old) }
+        ensures passes { IfErr result (λ _. Passes self.old self.new) }
+    {
+        match self.place.play(self.rest) {
+            Ok((m, used)) => {
+                self.rest = self.rest.split_at(used).1;
+                self.tally.play(&m);
+                Ok(Item::Play(m))
+            }
+            Err(what) => Err(Breach {
+                left: self.rest.len(),
+                what,
+            }),
+        }
+    }
+
+    // The same for any item.
+    #[inline(never)]
+    fn other_item(&mut self) -> Result<Item, Breach>
         requires main { self.old.place.depth ≡ 0 }
         requires room { size_of self.old.tally + length self.old.rest.now ≤ usize.MAX }
         ensures does { IfOk result (λ item. Does self.old item self.new) }

@@ -3,9 +3,10 @@ ghost use Rattle.std.specs.Prelude.{◌≡◌, ◌<◌, ◌||◌, is_some};
 ghost use Rattle.game_tree.specs.Promotions.{is_underpromotion_to};
 ghost use Rattle.game_codec.specs.Nests.{token_of};
 ghost use Rattle.game_codec.specs.Tallying.{added, no_tally, size_of};
+ghost use Rattle.game_codec.specs.Token.{Play};
 
 use super::token::Token;
-use cell_core::Kind;
+use cell_core::{Kind, Move};
 
 /// How many variations, marks of comments and NAGs were met, and whether a promotion was, and one to another man than a queen.
 #[derive(Clone, Copy, Debug, PartialEq, Eq)]
@@ -37,7 +38,7 @@ impl Tally {
         ensures added { self.new ≡ added self.old (token_of token.now) }
     {
         match *token {
-            Token::Play(m) => self.promote(m.promo),
+            Token::Play(m) => self.play(&m),
             Token::Nag(_) => self.nags += 1,
             Token::Comment => self.comments += 1,
             Token::Open => self.variations += 1,
@@ -45,7 +46,16 @@ impl Tally {
         }
     }
 
+    /// Adds a move.
+    #[inline(always)]
+    pub(crate) fn play(&mut self, m: &Move)
+        ensures added { self.new ≡ added self.old (Play m.now) }
+    {
+        self.promote(m.promo);
+    }
+
     // Adds what a move makes of a pawn.
+    #[inline(always)]
     fn promote(&mut self, promo: Option<Kind>)
         ensures variations { self.new.variations ≡ self.old.variations }
         ensures comments { self.new.comments ≡ self.old.comments }

@@ -51,7 +51,7 @@ const RENUMBERED: [Row; 3] = [(0, 0, Some((6, 21))), (0, 4, Some((1, 18))), (1, 
 fn game(alloc: Global, record: &[u8]) -> Result<Game, Fail>
     ensures legal { IfOk result (λ game. IsLegalGame game) }
 {
-    let (game, _) = decode_game(alloc, record.split_at(record.len().min(100)).0)?;
+    let game = decode_game(alloc, record.split_at(record.len().min(100)).0)?.game;
     Ok(game)
 }
 

@@ -27,7 +27,7 @@ fn squares_after(
     board: &'static [u8],
     side: Colour,
 ) -> Result<Option<Option<(u8, u8)>>, Fail> {
-    let (game, _) = decode_game(alloc, record.split_at(record.len().min(100)).0)?;
+    let game = decode_game(alloc, record.split_at(record.len().min(100)).0)?.game;
     match next_in(&pack(&read_board(board)?, side), &game) {
         Some(Some(m)) => Ok(Some(Some((m.from.index(), m.to.index())))),
         Some(None) => Ok(Some(None)),
@@ -48,7 +48,7 @@ fn the_first_place_on_the_main_line_counts(rt: HostRuntime) -> Result<(), Fail> 
 
 #[test]
 fn the_main_line_leaves_variations_out(rt: HostRuntime) -> Result<(), Fail> {
-    let (game, _) = decode_game(rt.alloc(), SHORT.split_at(SHORT.len().min(100)).0)?;
+    let game = decode_game(rt.alloc(), SHORT.split_at(SHORT.len().min(100)).0)?.game;
     let moves = main_line(rt.alloc(), &game)?;
     assert!(rt; moves.len() == 2);
     assert!(rt; moves[0].from.index() == 12 && moves[0].to.index() == 28);

@@ -50,7 +50,7 @@ pub fn one_game(
     ensures one { IfOk result (λ held. length (sigs_of held.0) ≡ 1) }
     ensures within { IfOk result (λ held. AreWithin held.1.known (extents_of held.0)) }
 {
-    let (game, _) = decode_game(alloc, record.split_at(record.len().min(100)).0)?;
+    let game = decode_game(alloc, record.split_at(record.len().min(100)).0)?.game;
     let mut games = MemGames::new(alloc);
     let mut file = Vec::new(alloc);
     games.add(alloc, no_head(alloc), &game, &mut file)?;

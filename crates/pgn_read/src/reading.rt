@@ -6,7 +6,6 @@ ghost use Rattle.pgn_read.specs.Fit.{IsFit};
 ghost use Rattle.pgn_read.specs.Said.{said, said_step, StepsWell, IsBalanced, IsSound};
 ghost use Rattle.pgn_read.specs.TagText.{unescaped_from};
 ghost use Rattle.pgn_read.specs.Token as token;
-ghost use Rattle.chess_laws.specs.Step.{Legal};
 ghost use Rattle.chess_text.specs.SanAnswer.{san_answer};
 ghost use Rattle.chess_text.specs.FenAnswer.{fen_answer};
 ghost use Rattle.pgn_read.specs.declared.item.GameWhat.TheVariants as what;
@@ -21,9 +20,8 @@ use crate::step::{End, Step};
 use crate::tag_text::unescaped;
 use crate::token::Token;
 use crate::turn::Turn;
-use cell_core::Move;
 use chess_laws::Position;
-use chess_text::{SanFault, read_fen, read_san};
+use chess_text::read_fen;
 use game_tree::{Branch, Builder, Game, Outcome};
 use std::alloc::{AllocError, Global};
 use std::marker::Model;
@@ -325,9 +323,8 @@ impl Reading {
         ensures well { IfOk result (λ step. StepsWell step self.old self.new) }
         ensures balanced { OnOk result (IsBalanced self.new) }
     {
-        match move_of(&self.turn.now_at, text) {
+        match self.turn.advance(text) {
             Ok(m) => {
-                self.turn.play(&m);
                 self.in_moves = true;
                 self.moves.play(alloc, m)?;
                 Ok(Step::GoesOn)
@@ -369,15 +366,6 @@ impl Reading {
         let Branch { lead, line } = moves.finish(alloc)?;
         Ok(Item::Good(head, Game { start, lead, line }))
     }
-}
-
-// The legal move that a text is, or why it is none. Apart from the loop over tokens the search for it takes fewer instructions.
-#[inline(never)]
-fn move_of(p: &Position, text: &[u8]) -> Result<Move, SanFault>
-    ensures answer { result ≡ san_answer p.now text.now }
-    ensures legal { IfOk result (λ m. Legal p.now m) }
-{
-    read_san(p, text)
 }
 
 // Adds a read tag behind the others.

@@ -103,7 +103,7 @@ pub record ReplaysOn (game : GameTree) (line : Line) (still left : List ℕ) : T
 pub all_small : All (λ v. v < 16) all_homes
 all_small = λ k d lt. subst (λ n. n < 16) (sym (get_or-range_with_len 0 16 k d lt)) (omega arith)
 
-all_true : (f : ℕ → Bool) (xs : List ℕ) → list_all f xs ≡ true → All (λ v. f v ≡ true) xs
+pub all_true : (f : ℕ → Bool) (xs : List ℕ) → list_all f xs ≡ true → All (λ v. f v ≡ true) xs
 all_true f [] h = All-nil (λ v. f v ≡ true)
 all_true f (x ∷ xs) h =
     let parts = and_parts (f x) (list_all f xs) h in

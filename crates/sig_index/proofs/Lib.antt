@@ -21,3 +21,4 @@ pub mod ReadLemmas
 pub mod SignedLemmas
 pub mod SigOf
 pub mod MarkLemmas
+pub mod TouchLemmas

@@ -246,7 +246,7 @@ filter-home f [] = All-nil (λ v. f v ≡ true)
 filter-home f (x ∷ xs) = kept_home f (f x) x (filter f xs) refl (filter-home f xs)
 
 -- Where a move touches none, all stay.
-all_pass : (f : ℕ → Bool) (xs : List ℕ) → All (λ v. f v ≡ true) xs → filter f xs ≡ xs
+pub all_pass : (f : ℕ → Bool) (xs : List ℕ) → All (λ v. f v ≡ true) xs → filter f xs ≡ xs
 all_pass f [] all = refl
 all_pass f (x ∷ xs) all =
     ap (λ t. cond t (x ∷ filter f xs) (filter f xs)) (All-head (λ v. f v ≡ true) x xs all)

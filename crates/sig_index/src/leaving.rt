@@ -1,15 +1,11 @@
 //! The pawns that leave their own squares along a line.
-ghost use Rattle.std.specs.Prelude.{◌≡◌, ◌≤◌, ◌<◌, ◌+◌, ◌++◌, ℕ, [], false, All, length, slice_index_or};
-ghost use Rattle.chess_laws.specs.Castling.{touches};
-ghost use Rattle.sig_index.specs.Leaving.{gone, stays, staying};
+ghost use Rattle.std.specs.Prelude.{◌≡◌, ◌≤◌, ◌+◌, ◌++◌, [], IsTrue, false, true, length, slice_index_or, slice_set};
+ghost use Rattle.sig_index.specs.Leaving.{are_own, at_square, gone, is_own, marked_homes, off_square, staying, value_of};
 ghost use Rattle.sig_index.specs.Signature.{all_homes};
 
 use arrayvec::ArrayVec;
 use cell_core::{Move, Square};
 use std::marker::Model;
-
-/// The home values of all pawns.
-const HOMES: [u8; 16] = [0, 1, 2, 3, 4, 5, 6, 7, 8, 9, 10, 11, 12, 13, 14, 15];
 
 /// Whether a square is the own one of some pawn.
 const OWN_SQUARES: [bool; 64] = [
@@ -20,50 +16,43 @@ const OWN_SQUARES: [bool; 64] = [
     true, false, false, false, false, false, false, false, false,
 ];
 
-/// The home values that are looked for along a line, in rising order.
+/// The home values that are looked for along a line, in rising order: those whose own squares are marked.
 #[derive(Drop)]
 pub(crate) struct Still {
-    values: ArrayVec<u8, 16>,
-    // Whether a square may be the own one of a value, so that most moves need no look at the values.
     marks: [bool; 64],
 }
 
 impl Model for Still {
-    ghost use Rattle.std.specs.Prelude.{ℕ, List};
-    ghost use Rattle.sig_index.specs.Leaving.{AreMarked};
+    ghost use Rattle.std.specs.Prelude.{◌≡◌, ℕ, List, true};
+    ghost use Rattle.sig_index.specs.Leaving.{are_own, marked_homes};
 
     ghost Value = { List ℕ };
 
-    ghost view = { λ s. s.values.items };
+    ghost view = { λ s. marked_homes s.marks };
 
-    ghost invariant = { λ s. AreMarked s.marks s.values.items };
+    ghost invariant = { λ s. are_own 0 s.marks ≡ true };
 }
 
 impl Still {
     /// Those of all pawns.
+    #[tactic(auto, unfolding(crate::specs::Leaving::marked_homes))]
     pub(crate) fn all() -> Still
         ensures all { result ≡ all_homes }
     {
-        Still {
-            values: ArrayVec::from(HOMES),
-            marks: OWN_SQUARES,
-        }
+        Still { marks: OWN_SQUARES }
     }
 
     /// None.
+    #[tactic(auto, unfolding(crate::specs::Leaving::marked_homes))]
     pub(crate) fn none() -> Still
         ensures none { result ≡ [] }
     {
-        Still {
-            values: ArrayVec::new(),
-            marks: [false; 64],
-        }
+        Still { marks: [false; 64] }
     }
 
     /// Takes the values at whose own squares a move begins or ends out of these, and adds them to `left`. Of pawns that are at home just
     /// these leave, by moving or by being captured.
     pub(crate) fn leave_by(&mut self, m: &Move, left: &mut ArrayVec<u8, 16>)
-        requires values { All (λ value. value < 16) self.old }
         requires room { length self.old + length left.old.items ≤ 16 }
         ensures still { self.new ≡ staying m.now self.old }
         ensures left { left.new.items ≡ left.old.items ++ gone m.now self.old }
@@ -73,16 +62,36 @@ impl Still {
         }
     }
 
-    // The same for any move. It stands apart, so that the look at the marks is compiled into the loops.
+    // The same for any move. It stands apart, so that the look at the marks is compiled into the loops. Values rise as their own squares
+    // fall, and a move touches at most two of them.
     #[inline(never)]
     fn leave(&mut self, m: &Move, left: &mut ArrayVec<u8, 16>)
-        requires values { All (λ value. value < 16) self.old }
         requires room { length self.old + length left.old.items ≤ 16 }
         ensures still { self.new ≡ staying m.now self.old }
         ensures left { left.new.items ≡ left.old.items ++ gone m.now self.old }
     {
-        take_out(m, &mut self.values, left);
-        unmark(&mut self.marks, m);
+        if m.from.index() < m.to.index() {
+            take_out(&mut self.marks, m.to, left);
+            take_out(&mut self.marks, m.from, left);
+        } else {
+            take_out(&mut self.marks, m.from, left);
+            take_out(&mut self.marks, m.to, left);
+        }
+    }
+}
+
+// Takes the value with this own square out of those that are marked, if it is among them.
+fn take_out(marks: &mut [bool; 64], square: Square, left: &mut ArrayVec<u8, 16>)
+    requires own { are_own 0 marks.old ≡ true }
+    requires room { length (marked_homes marks.old) + length left.old.items ≤ 16 }
+    ensures own { are_own 0 marks.new ≡ true }
+    ensures still { marked_homes marks.new ≡ off_square square (marked_homes marks.old) }
+    ensures left { left.new.items ≡ left.old.items ++ at_square square (marked_homes marks.old) }
+    ensures room { length (marked_homes marks.new) + length left.new.items ≤ 16 }
+{
+    if is_marked(marks, square) {
+        left.push(value_of(square));
+        unmark(marks, square);
     }
 }
 
@@ -93,38 +102,22 @@ fn is_marked(marks: &[bool; 64], square: Square) -> bool
     marks[usize::from(square.index())]
 }
 
-// Takes the marks off the squares where a move begins and ends.
-fn unmark(marks: &mut [bool; 64], m: &Move)
-    ensures others { (square : ℕ) → touches m.now square ≡ false → slice_index_or marks.new square false ≡ slice_index_or marks.old square false }
+// Takes the mark off a square.
+fn unmark(marks: &mut [bool; 64], square: Square)
+    ensures { marks.new ≡ slice_set marks.old square false }
 {
-    marks[usize::from(m.from.index())] = false;
-    marks[usize::from(m.to.index())] = false;
+    marks[usize::from(square.index())] = false;
 }
 
-// Takes the values out one at a time.
-#[tactic(auto, using(std::proofs::lemmas::List::Elements::filter_more), unfolding(crate::specs::Leaving::staying, crate::specs::Leaving::gone))]
-fn take_out(m: &Move, still: &mut ArrayVec<u8, 16>, left: &mut ArrayVec<u8, 16>)
-    requires values { All (λ value. value < 16) still.old.items }
-    requires room { length still.old.items + length left.old.items ≤ 16 }
-    ensures still { still.new.items ≡ staying m.now still.old.items }
-    ensures left { left.new.items ≡ left.old.items ++ gone m.now still.old.items }
+// The value with this own square.
+fn value_of(square: Square) -> u8
+    requires own { IsTrue (is_own square) }
+    ensures { result ≡ value_of square }
 {
-    let mut stay = ArrayVec::new();
-    for value in still.as_slice() {
-        if stays(m, *value) {
-            stay.push(*value);
-        } else {
-            left.push(*value);
-        }
+    let number = square.index();
+    if number < 16 {
+        23 - number
+    } else {
+        55 - number
     }
-    *still = stay;
-}
-
-// Whether a move neither begins nor ends at the own square of a value.
-fn stays(m: &Move, value: u8) -> bool
-    requires { value < 16 }
-    ensures { result ≡ stays m.now value }
-{
-    let own = if value < 8 { 55 - value } else { 23 - value };
-    m.from.index() != own && m.to.index() != own
 }

@@ -28,8 +28,8 @@ returns-then-is_some-clause-why c = (
         (
           c.in-Ok.ensures.found,
           (
-            c.sig_of-found.ensures.signature,
-            other-sig c.args.e.now c.sig_of-found.result (ap (λ o. is_some o) (sym c.differing.ensures.first) ∙ sym c.if-is_some.ensures),
+            c.sig_ending-found.ensures.signature,
+            other-sig c.args.e.now c.sig_ending-found.result (ap (λ o. is_some o) (sym c.differing.ensures.first) ∙ sym c.if-is_some.ensures),
           ),
         ),
       ),
@@ -39,5 +39,5 @@ returns-then-is_some-clause-why c = (
 
 pub returns-clause-same : goal.returns-clause-same
 returns-clause-same c =
-    let P : Sig → Type 0 = λ s. IsSig c.in-Ok.read.0 s in
-    subst P (sym (none-differs c.args.e.now c.sig_of-found.result (ap (λ o. is_some o) (sym c.differing.ensures.first) ∙ sym c.if-is_some.ensures))) c.sig_of-found.ensures.signature
+    let P : Sig → Type 0 = λ s. IsSig c.in-Ok.decoded.game s in
+    subst P (sym (none-differs c.args.e.now c.sig_ending-found.result (ap (λ o. is_some o) (sym c.differing.ensures.first) ∙ sym c.if-is_some.ensures))) c.sig_ending-found.ensures.signature

@@ -32,7 +32,7 @@ returns-clause-written c =
 pub returns-clause-last : goal.returns-clause-last
 returns-clause-last c =
     c.position.ensures.position
-    ∙ game-ends c.args.g.now c.as_slice.result.now c.in_ok-start.start.position c.in_ok-end.end
+    ∙ game-ends c.args.g.now (line_of c.as_slice.result.now) c.in_ok-start.start.position c.in_ok-end.end.position
     (sym (ap (λ (g : GameTree). g.line) c.g.view_is) ∙ ap line_of (sym c.as_slice.ensures.value))
     (c.in_ok-start.ensures.position ∙ ap (λ (g : GameTree). g.start) c.g.view_is)
     c.in_ok-end.ensures.end

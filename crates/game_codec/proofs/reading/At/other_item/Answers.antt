@@ -3,7 +3,7 @@ use Rattle.std.specs.Prelude.{IfErr}
 use Rattle.game_codec.specs.Place.{Place}
 use Rattle.game_codec.specs.Reading.{BreaksLine, Ends, Passes}
 use Rattle.game_codec.proofs.ReadingLaws.{Passes-none, ends, faults, keeps, nags, notes, plays-as}
-use Rattle.game_codec.proofs.reading.At.item.Goals as goal
+use Rattle.game_codec.proofs.reading.At.other_item.Goals as goal
 
 pub returns-in-Err-clause-fault : goal.returns-in-Err-clause-fault
 returns-in-Err-clause-fault c = faults c.args.self.now _ refl c.in-Err.ensures.fault

@@ -11,7 +11,7 @@ use Rattle.game_codec.specs.declared.fault.RecordWhat.TheVariants as what
 use Rattle.move_codec.proofs.DecodedLaws.{from_decodes}
 use Rattle.game_codec.proofs.KeptLaws.{kept_move}
 use Rattle.game_codec.proofs.WritingLaws.{numbered-played}
-use Rattle.game_codec.proofs.place.Place.next_move.Goals as goal
+use Rattle.game_codec.proofs.place.Place.play.Goals as goal
 
 -- What the place that keeps another position before it decodes is what the place decodes.
 takes_here : (now p : Place) (bytes : List ℕ) (m : Move) (used n : ℕ) → now ≡ with_before now.before p → IsMoveDue bytes
