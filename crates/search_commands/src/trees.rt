@@ -151,6 +151,7 @@ fn read_rows<F: Files>(
 }
 
 // Counts the hit of a game in the rows of those before it, if the game is in and meets the position.
+#[inline(always)]
 fn add_game<F: Files>(
     rows: &mut Rows,
     base: &Base,
@@ -196,6 +197,7 @@ fn add_game<F: Files>(
 }
 
 /// The hit of a game, if it meets the position. Its record is read into `block` if it can and the index does not decide it.
+#[inline(always)]
 pub fn read_hit<F: Files>(
     base: &Base,
     i: u32,
