@@ -96,6 +96,7 @@ pub fn search<G: Games, F: Files>(
 }
 
 /// The same as `hit`, of what is sought, with the hits that an index of these games tells of it, if there is one.
+#[inline(always)]
 pub fn hit_sought<G: Games, F: Files>(
     games: &G,
     i: u32,
@@ -128,6 +129,7 @@ pub fn hit_sought<G: Games, F: Files>(
 }
 
 // The hit of one game, whose record is read into `buf`.
+#[inline(never)]
 fn hit_read<G: Games, F: Files>(
     games: &G,
     i: u32,

@@ -151,6 +151,7 @@ fn read_rows<F: Files>(
 }
 
 // Counts the hit of a game in the rows of those before it, if the game is in and meets the position.
+#[inline(always)]
 fn add_game<F: Files>(
     rows: &mut Rows,
     base: &Base,

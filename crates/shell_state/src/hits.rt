@@ -81,6 +81,7 @@ pub fn counted(base: &Base, i: u32, next: Option<Move>, side: Colour) -> GameHit
 }
 
 /// The hit of a game, if it meets the position. Its record is read into `block` if it can and the index does not decide it.
+#[inline(always)]
 pub fn read_hit<F: Files>(
     base: &Base,
     i: u32,

@@ -25,3 +25,12 @@ colour_can_stand sig range queens =
 -- The counts of a game with this signature can have been at most those of the range at some ply: White's and Black's.
 abbrev pub can_stand : Sig → MatRange → Bool
 can_stand sig range = colour_can_stand sig range 0 && colour_can_stand sig range 5
+
+-- None of one colour's counts is above the greatest that is allowed. Only private functions cite this.
+abbrev pub are_within : List ℕ → List ℕ → ℕ → Bool
+are_within counts most queens =
+    nat_le (slice_index counts queens) (slice_index most queens)
+    && nat_le (slice_index counts (queens + 1)) (slice_index most (queens + 1))
+    && nat_le (slice_index counts (queens + 2)) (slice_index most (queens + 2))
+    && nat_le (slice_index counts (queens + 3)) (slice_index most (queens + 3))
+    && nat_le (slice_index counts (queens + 4)) (slice_index most (queens + 4))

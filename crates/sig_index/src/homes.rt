@@ -1,5 +1,5 @@
 //! Which games a search of a position can leave unread, by the pawns that stand at home.
-ghost use Rattle.std.specs.Prelude.{◌≡◌, ◌≤◌, ◌<◌, ℕ, true, not, nat_eq, take, length};
+ghost use Rattle.std.specs.Prelude.{◌≡◌, ◌≤◌, ◌<◌, ◌*◌, ◌-◌, ◌/◌, ◌%◌, ◌^◌, ℕ, true, not, nat_eq, take, length};
 ghost use Rattle.std.specs.List.{list_any};
 ghost use Rattle.chess_laws.specs.Counts.{is_home};
 ghost use Rattle.chess_laws.specs.Position.{Sound, start_setup};
@@ -42,16 +42,27 @@ fn is_all_but_first(s: &Brief<'_>, set: u16) -> bool
     requires home { IsHomeList s.now.home }
     ensures { result ≡ is_all_but_first (take s.now.home.count s.now.home.values) set }
 {
+    let word = s.home_word();
     let mut still = u16::MAX;
     for i in 0..s.home_count() {
         if still == set {
             return true;
         }
-        let value = s.home_value(usize::from(i));
+        let value = home_value(word, i);
         if (set >> value) % 2 == 1 {
             return false;
         }
         still &= !(1 << value);
     }
     still == set
+}
+
+// The home value at a place of a word of them.
+#[inline(always)]
+fn home_value(word: u64, i: u8) -> u8
+    requires { i < 16 }
+    ensures value { result ≡ word / 2 ^ (60 - 4 * i) % 16 }
+    ensures small { result < 16 }
+{
+    ((word >> (60 - 4 * i)) % 16) as u8
 }

@@ -134,7 +134,12 @@ impl<'r> ProgressLine<'r> {
     }
 
     /// A record is read at this place of the games file.
+    #[inline]
     pub fn read(&self, place: u64) {
+        if self.began.is_none() {
+            // Nothing is said, and a search asks for many records.
+            return;
+        }
         let before = self.progress.get();
         let work = match before.work {
             Work::Opening | Work::Compacting | Work::Mending => before.work,
