@@ -47,13 +47,13 @@ impl<'a> BoardHits<'a> {
         ensures legal { (board : Packed) → All (λ hit. IfSome hit.next (IsLegalOn board)) self.old → IfSome result (λ first. IfSome first.1 (IsLegalOn board)) }
     {
         if self.hits.is_empty() {
-            // As where there is no index.
+            // As without an index.
             return None;
         }
         self.first_among(game)
     }
 
-    // The same where there are some hits.
+    // The same if there are some hits.
     #[inline(never)]
     fn first_among(&mut self, game: u32) -> Option<(u32, Option<Move>)>
         ensures same { self.new ≡ self.old }
