@@ -1,6 +1,6 @@
 -- How many men boards have at least.
 use Rattle.std.proofs.Common.{◌≡◌, ◌<◌, ◌≤◌, ◌+◌, ℕ, false, List, get_or, length, Some, take, ap, subst, arith, inl, inr}
-use Rattle.std.specs.Prelude.{All, min, slice_get}
+use Rattle.std.specs.Prelude.{All, max, min, slice_get}
 use Rattle.std.proofs.lemmas.Bool.{cases_Bool}
 use Rattle.std.proofs.lemmas.List.Elements.{All-more}
 use Rattle.std.proofs.lemmas.Option.{get_or_from_slice_get, slice_get_within}
@@ -26,6 +26,9 @@ boards_more boards k old one new board lt below beside is at all =
 
 pub lesser : (a b c : ℕ) → c ≡ min a b → (c ≤ a) × (c ≤ b)
 lesser a b c is = (grind (arith, is), grind (arith, is))
+
+pub greater : (a b c : ℕ) → c ≡ max a b → (a ≤ c) × (b ≤ c)
+greater a b c is = (grind (arith, is), grind (arith, is))
 
 pub each_packed : (fewest : ℕ) (boards : List Packed) → All (IsBoard fewest) boards → All (λ (board : Packed). ArePacked board.cells) boards
 each_packed fewest boards all = λ i d less. (all i d less).packed

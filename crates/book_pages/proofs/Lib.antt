@@ -4,3 +4,5 @@ mod BoardLemmas
 mod MeetLemmas
 mod HereLemmas
 mod GameLemmas
+mod CountLemmas
+mod ReachLemmas

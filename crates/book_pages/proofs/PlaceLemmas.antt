@@ -31,7 +31,7 @@ same_parts a b cells side = λ i. record { cells = cells i; side = side i }
 same_side : (a b : Colour) → Decides ((colour.ghosts).eq a b) (a ≡ b)
 same_side a b = search rules
 
-packed_eq-Decides : (a b : Packed) → Decides (packed_eq a b) (a ≡ b)
+pub packed_eq-Decides : (a b : Packed) → Decides (packed_eq a b) (a ≡ b)
 packed_eq-Decides a b =
     Decides-like (pointwise nat_eq a.cells b.cells && (colour.ghosts).eq a.side b.side)
     (λ (h : (a.cells ≡ b.cells) × (a.side ≡ b.side)). same_parts a b h.0 h.1)

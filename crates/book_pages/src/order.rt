@@ -5,10 +5,12 @@ ghost use Rattle.tree_rows.specs.MoveText.{IsKey};
 use crate::book::Book;
 use cell_core::{Board, Colour, Move, pack, unpack};
 use std::alloc::{AllocError, Global};
+use std::marker::Model;
 use tree_rows::needed;
 
 /// The order in which the pages of a book are found. It goes from the start on by the moves that most games made, page
-/// after page. If pages are left that no page leads to, it goes on from each of them in the same way.
+/// after page. If pages are left that no page leads to, it goes on from each of them in the same way. Contracts see the pages
+/// in this order.
 #[derive(Drop)]
 pub struct Order {
     // The pages in the order in which they are found.
@@ -19,7 +21,17 @@ pub struct Order {
     came: Vec<Option<usize>>,
 }
 
+impl Model for Order {
+    ghost use Rattle.std.specs.Prelude.{ℕ, List};
+
+    ghost Value = { List ℕ };
+
+    ghost view = { λ o. o.found.items };
+}
+
 impl Order {
+    ghost use Rattle.std.specs.Prelude.{◌≡◌, slice_get};
+
     /// The order of the pages of a book.
     pub fn of(alloc: Global, book: &Book) -> Result<Order, AllocError> {
         let mut order = Order {
@@ -52,7 +64,9 @@ impl Order {
     }
 
     /// The page that is found at a place, if there are so many.
-    pub fn page(&self, place: usize) -> Option<usize> {
+    pub fn page(&self, place: usize) -> Option<usize>
+        ensures page { result ≡ slice_get self.now place }
+    {
         self.found.get(place).copied()
     }
 

@@ -241,7 +241,7 @@ fn write_book<F: Files>(
 }
 
 // Says how many pages there are, and how many games reach each at least.
-fn say_made<K: Sink>(alloc: Global, out: &mut K, pages: usize, least: u32) -> Result<(), End> {
+fn say_made<K: Sink>(alloc: Global, out: &mut K, pages: usize, least: u64) -> Result<(), End> {
     say(out, format!(in alloc; "pages {pages} least {least}\n")?)
 }
 
@@ -267,7 +267,7 @@ fn read_book<F: Files>(
     reach: &Reach,
     files: &mut F,
     block: &mut [u8],
-) -> Result<(Book, u32), End>
+) -> Result<(Book, u64), End>
     requires games { length games.now ≡ length base.now.entries }
     requires sound { IsSound base.now }
     requires within { AreWithin (F.seen files.old).known (extents_of base.now) }

@@ -1,10 +1,7 @@
-use Rattle.std.proofs.Common.{◌≡◌, ◌≤◌, Some, length}
-use Rattle.std.specs.Prelude.{slice_get}
+use Rattle.std.proofs.Common.{◌≡◌, take}
+use Rattle.book_pages.proofs.ReachLemmas.{chosen_of}
 use Rattle.book_pages.proofs.finding.chosen.Given as goal
 
--- The start is the first board, and there are not too many.
+-- The boards are those of the boards before this one, as long as there is room.
 abbrev pub invariant-loop-number : goal.invariant-loop-number
-invariant-loop-number l = record {
-  start : slice_get l.boards.keys 0 ≡ Some l.reach.start;
-  few : length l.boards.keys ≤ 20000;
-}
+invariant-loop-number l = l.boards.keys ≡ take 20000 (chosen_of l.reach.start l.counts.boards.keys l.counts.met.items l.least l.number)
