@@ -9,7 +9,9 @@
 - The wrong bodies that docs/MAINTAINING.md names are there, and all are within its numbers.
 - Of each crate that crates.txt gives a crate, some file of it names something.
 - docs/DESIGN.md has a row for each crate, on a floor above all that it names, as docs/house.py finds.
-- No page has more long sentences, long lines and turns of phrase than docs/prose.py leaves it, and all pages have no more lines than it says."""
+- No page and no comment of a source file has more long sentences, long lines and turns of phrase than docs/prose.py leaves it, and all pages
+  have no more lines than it says.
+- Each file of specs/ that a public clause rests on names its source in its first comment."""
 import collections
 import re
 import sys

@@ -71,7 +71,8 @@ def calls_of(path):
             call.head += " " + text
         if text == "{" or (text.endswith("{") and not CLAUSE.match(line)):
             call, note = (call, note) if text.startswith(("pub fn", "fn")) and not text.endswith("{") else (None, [])
-        remark = [*remark, text[3:]] if text.startswith("// ") else []
+        if not text.startswith("#["):
+            remark = [*remark, text[3:]] if text.startswith("// ") else []
         if not text.startswith(("///", "#[")):
             doc = []
 
@@ -87,10 +88,10 @@ def handed_out():
 
 
 def says(call):
-    """The comment of a call as one line."""
+    """The comment of a call as one line, without the signs of lists."""
     if not call.comment:
         return f"As `{call.of_trait.removesuffix(' for ').split('<')[0]}` says." if call.of_trait and call.of_trait.endswith(" for ") else ""
-    text = re.sub(r"# Errors\s+", "Errors: ", " ".join(filter(None, call.comment)))
+    text = re.sub(r"# Errors\s+", "Errors: ", " ".join(it.removeprefix("- ") for it in call.comment if it))
     return re.sub(r"\s+", " ", text).replace("|", "\\|")
 
 

@@ -9,7 +9,7 @@ Usage: docs/trusted.py            how many definitions of each crate, and how ma
        docs/trusted.py --write    prints the lists of docs/TRUSTED.md anew, from the comments of the files
 
 A list has the crates from the lowest up, and in a crate each file behind those that it names. What a file says is its first comment, and its
-source is what its comments name. docs/check.py fails if the page is not what --write prints."""
+source is what its comments name. docs/check.py fails if the page is not what --write prints, and if a first comment names no source."""
 import itertools
 import pathlib
 import re
@@ -214,22 +214,25 @@ def readable(modules, cited, files):
 
 
 def heading(file):
-    """The comment that a file begins with, as one line."""
+    """The comment that a file begins with, as one line, without the signs of lists."""
     lines = itertools.takewhile(lambda it: it.startswith("--"), file.text.splitlines())
-    return " ".join(it.removeprefix("--").strip() for it in lines)
+    return " ".join(it.removeprefix("--").strip().removeprefix("- ") for it in lines)
 
 
-def source_of(file):
-    """What the comments of a file name as its source: the sections of each standard, Scid, this project."""
-    comments = " ".join(it.strip().removeprefix("--").strip() for it in file.text.splitlines() if it.strip().startswith("--"))
+def sources_in(text):
+    """What a text names as sources: the sections of each standard, Scid, this project."""
     found = []
     for standard, short in STANDARDS:
-        told = [it[1] for it in re.finditer(rf"{standard}(?:, (?:Articles? |section )?(\d[\d.]*(?:(?:, and |, | and | to )\d[\d.]*)*))?", comments)]
+        told = [it[1] for it in re.finditer(rf"{standard}(?:, (?:Articles? |section )?(\d[\d.]*(?:(?:, and |, | and | to )\d[\d.]*)*))?", text)]
         if told:
             parts = {it.rstrip(".") for numbers in told if numbers for it in re.split(r", and |, | and ", numbers)}
             found.append(short + "".join(f" {', '.join(sorted(parts, key=section))}" for _ in [0] if parts))
-    found += [short for words, short in OTHER_SOURCES if re.search(words, comments)]
-    return "; ".join(found) or "none named"
+    return found + [short for words, short in OTHER_SOURCES if re.search(words, text)]
+
+
+def source_of(file):
+    """What all comments of a file name as its source."""
+    return "; ".join(sources_in(" ".join(it.strip().removeprefix("--").strip() for it in file.text.splitlines() if it.strip().startswith("--"))))
 
 
 def section(numbers):
@@ -286,11 +289,15 @@ def page():
 
 
 def faults():
-    """Whether docs/TRUSTED.md is not current, and which definitions say that nobody cites them, and somebody does."""
+    """Whether docs/TRUSTED.md is not current, which cited files name no source, and which say that nobody cites them, and somebody does."""
     files = read_all()
     if (TOP / PAGE).read_text() != page():
         yield f"{PAGE} is not what docs/trusted.py --write prints"
-    yield from cited_private_words(files, {**of_clauses(files), **of_theorem(files)})
+    cited = {**of_clauses(files), **of_theorem(files)}
+    for module in sorted({module for module, _ in cited}):
+        if not sources_in(heading(files[module])):
+            yield f"{files[module].path.relative_to(TOP)}: its first comment names no source"
+    yield from cited_private_words(files, cited)
 
 
 def cited_private_words(files, cited):

@@ -2,6 +2,7 @@
 use Rattle.std.proofs.Common.{◌≡◌, ◌≤◌, ◌+◌, ℕ, List, Option, Some, None, Result, Ok, Err, refl, sym, subst}
 use Rattle.std.specs.Option.{option_map_or}
 use Rattle.std.proofs.lemmas.Bool.{leb-false, ltb-false}
+use Rattle.cell_core.specs.Steps.{blamed, ◌>>=◌}
 use Rattle.index_entry.specs.declared.entry.Entry.{Entry}
 use Rattle.index_entry.specs.declared.fault.EntryFault.{EntryFault}
 use Rattle.index_entry.specs.Entry.{entry_read, entry_in, fault_in}
@@ -12,8 +13,7 @@ use Rattle.base_core.specs.declared.fault.IdField.TheVariants as id
 use Rattle.base_core.specs.declared.fault.PlaceWhat.{PlaceWhat}
 use Rattle.base_core.specs.declared.fault.PlaceWhat.TheVariants as place
 use Rattle.base_core.specs.Entries.{HasNames}
-use Rattle.name_base.specs.Reading.{◌>>=◌}
-use Rattle.base_core.specs.FirstFault.{blamed, unless, entry_checked, id_fault, place_fault}
+use Rattle.base_core.specs.FirstFault.{unless, entry_checked, id_fault, place_fault}
 use Rattle.base_core.proofs.Results.{same_ok, ok_err, step_none}
 
 pub record Checked (names : NameLists) (end : ℕ) (r : Result Entry EntryFault) (e : Entry) : Type 0 where

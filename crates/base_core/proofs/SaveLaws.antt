@@ -1,6 +1,6 @@
 -- What saving writes means the base, and opens again as it.
-use Rattle.std.proofs.Common.{◌≡◌, ◌<◌, ◌≤◌, ◌+◌, ◌*◌, ℕ, Bool, true, false, if◌then◌else◌, List, ◌++◌, length, take, drop, slice_get, Option, Some, None, IfSome, Result, Ok, Err, OnErr, nat_lt, refl, sym, ap, ◌∙◌, subst, arith}
-use Rattle.std.proofs.lemmas.Bool.{lt-leb, ltb-false, ne_eqb}
+use Rattle.std.proofs.Common.{◌≡◌, ◌<◌, ◌≤◌, ◌+◌, ◌*◌, ℕ, Bool, true, false, if◌then◌else◌, List, ◌++◌, length, take, drop, slice_get, Option, Some, None, IfSome, Result, Ok, Err, OnErr, refl, sym, ap, ◌∙◌, subst, arith}
+use Rattle.std.proofs.lemmas.Bool.{lt-leb, ne_eqb}
 use Rattle.std.proofs.lemmas.List.{append_assoc, drop_at, length-append, length-drop, length-take-le, take-append-drop}
 use Rattle.std.proofs.lemmas.Option.{slice_get_within}
 use Rattle.std.proofs.Math.Seq.{drop-append-add}
@@ -8,10 +8,10 @@ use Rattle.base_files.specs.Seen.{Seen, replaced, told_instead}
 use Rattle.base_files.specs.Told.{TellsLength}
 use Rattle.base_files.specs.declared.part.Part.TheVariants as part
 use Rattle.index_entry.specs.Entry.{entry_read}
-use Rattle.index_entry.specs.Index.{entry_bytes, head_in, index_bytes, index_read, number_in}
+use Rattle.index_entry.specs.Index.{entry_bytes, head_in, index_bytes, index_read}
 use Rattle.index_entry.specs.declared.entry.Entry.{Entry}
-use Rattle.index_entry.specs.declared.fault.IndexFault.TheVariants.{Short, Magic, Version, Games, Length}
 use Rattle.index_entry.specs.declared.index.IndexHead.{IndexHead}
+use Rattle.index_entry.proofs.HeaderLemmas.{header-is, header-long, header-read}
 use Rattle.name_base.specs.NameLists.{AreSound, NameLists}
 use Rattle.name_base.specs.Reading.{names_at}
 use Rattle.name_base.specs.NamesText.{IsNamesText}
@@ -31,38 +31,17 @@ use Rattle.base_core.proofs.GamesLaws.{at-all}
 use Rattle.base_core.proofs.Lists.{get_some}
 use Rattle.base_core.proofs.OneFault.{none_fails}
 use Rattle.base_core.proofs.OpenLaws.{opened_meant, whole_is}
-use Rattle.base_core.proofs.Results.{ok_err, same_ok}
 use Rattle.base_core.proofs.SigLaws.{own-sig}
 use Rattle.base_core.proofs.UseLaws.{are-frequencies}
 
 -- ---- the entries of an index stand behind its header.
 
-passed : {A E : Type 0} (b : Bool) (e : E) (rest : Result A E) (x : A) → (if b then Err e else rest) ≡ Ok x → rest ≡ Ok x
-passed true e rest x is = absurd (ok_err _ x e is refl)
-passed false e rest x is = is
-
-not_err : {A E : Type 0} (b : Bool) (e : E) (rest : Result A E) (x : A) → (if b then Err e else rest) ≡ Ok x → b ≡ false
-not_err true e rest x is = absurd (ok_err _ x e is refl)
-not_err false e rest x is = refl
-
-pub index-long : (bytes : List ℕ) (h : IndexHead) → index_read bytes ≡ Ok h → 182 ≤ length bytes
-unfolding index_read
-index-long bytes h is = ltb-false (length bytes) 182 (not_err (nat_lt (length bytes) 182) (Short (length bytes)) _ h is)
-
-pub index-head : (bytes : List ℕ) (h : IndexHead) → index_read bytes ≡ Ok h → head_in bytes ≡ h
-unfolding index_read
-index-head bytes h is =
-    let a = passed _ (Short (length bytes)) _ h is in
-    let b = passed _ Magic _ h a in
-    let c = passed _ (Version (number_in 8 2 bytes)) _ h b in
-    let d = passed _ (Games (number_in 14 3 bytes)) _ h c in
-    same_ok _ (head_in bytes) h refl (passed _ (Length (length bytes)) _ h d)
-
 head-parts : (bytes : List ℕ) (h : IndexHead) → index_read bytes ≡ Ok h → (length h.description ≡ 108) × (length h.custom ≡ 54)
 unfolding head_in
 head-parts bytes h is =
-    let long : 182 ≤ length bytes = index-long bytes h is in
-    let head : head_in bytes ≡ h = index-head bytes h is in (
+    let read = header-read bytes h is in
+    let long : 182 ≤ length bytes = header-long bytes h read in
+    let head : head_in bytes ≡ h = header-is bytes h read in (
       sym (ap (λ (x : IndexHead). length x.description) head) ∙ length-take-le 108 (drop 20 bytes) (omega (arith, long, length-drop 20 bytes)),
       sym (ap (λ (x : IndexHead). length x.custom) head) ∙ length-take-le 54 (drop 128 bytes) (omega (arith, long, length-drop 128 bytes)),
     )
@@ -82,7 +61,7 @@ drop-more a n xs within =
 entry-at : (h : IndexHead) (entries : List ℕ) (i : ℕ) → index_read (index_bytes h entries) ≡ Ok h → entry_bytes (index_bytes h entries) i ≡ packed_at entries i
 entry-at h entries i is =
     let parts = head-parts (index_bytes h entries) h is in
-    ap (λ (b : List ℕ). take 47 b) (drop-more 182 (47 * i) (index_bytes h entries) (index-long (index_bytes h entries) h is) ∙ ap (λ (b : List ℕ). drop (47 * i) b) (behind h entries parts.0 parts.1))
+    ap (λ (b : List ℕ). take 47 b) (drop-more 182 (47 * i) (index_bytes h entries) (header-long (index_bytes h entries) h (header-read (index_bytes h entries) h is)) ∙ ap (λ (b : List ℕ). drop (47 * i) b) (behind h entries parts.0 parts.1))
 
 -- The bytes of an entry in the index of what is kept.
 written-at : (kept : Kept) (index : List ℕ) (i : ℕ) (e : Entry) → IsIndexOf kept index → index_read index ≡ Ok kept.header → slice_get kept.entries i ≡ Some e → entry_read (entry_bytes index i) ≡ Ok e
@@ -185,7 +164,7 @@ written-again kept index names games base sound writes read end is =
     record {
       means = means;
       faultless = λ strict fault. faultless kept index names games base strict fault sound writes read end is;
-      opened = λ create strict again mended opens. opened_meant create strict index names games again mended base (not_created create index names games (index-long index kept.header read)) opens means;
+      opened = λ create strict again mended opens. opened_meant create strict index names games again mended base (not_created create index names games (header-long index kept.header (header-read index kept.header read))) opens means;
     }
 
 -- ---- where the files may be told.

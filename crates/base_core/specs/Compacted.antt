@@ -14,8 +14,8 @@ abbrev pub end_of : ℕ → List ℕ → ℕ
 end_of end [] = end
 end_of end (len ∷ lens) = end_of (end_after end len) lens
 
--- The base of these games alone: with the names that they use, in the order of their first use, game by game white, black, event, site, round,
--- and their records placed from the beginning of the games file.
+-- The base of these games alone. It has the names that they use, in the order of their first use, game by game white,
+-- black, event, site, round. Their records are placed from the beginning of the games file.
 unfoldable pub only : List Held → Base → Base
 only games base = record {
   header = record base.header { games = length games };

@@ -51,17 +51,18 @@ pub record Grows (len : ℕ) (old new : Kept) : Type 0 where
   pub room : new.end ≤ longest_file
   pub unsaved : new.unsaved ≡ old.unsaved
 
--- Game i of a base was taken over into a draft: where the base and the draft stood for plain bases beside their games files, the draft now
--- stands for its base with that game, beside its games file with the record of the game behind zero bytes or none.
+-- Game i of a base was taken over into a draft. If the base and the draft stood for plain bases beside their games
+-- files, the draft now stands for its base with that game. Its games file then has the record of the game too, behind
+-- zero bytes or none.
 abbrev pub TakesOver : ℕ → Kept → Kept → Kept → Type 0
 TakesOver i of old new =
     (e : Entry) (held : Held) (games fresh : List ℕ) (whole made : Base) → slice_get of.entries i ≡ Some e → slice_get whole.games i ≡ Some held
     → Represents of games whole → length fresh ≡ old.end → Represents old fresh made
     → Represents new (fresh ++ padded old.end (record_in games (extent_of e))) (with_game held made)
 
--- A game was taken into a draft by an entry, with these names by their ids: where the entry keeps the game beside its games file, and the draft
--- stood for a base beside a new games file, the draft now stands for that base with the game, beside the new games file with the record of the
--- game behind zero bytes or none.
+-- A game was taken into a draft by an entry, with these names by their ids. If the entry keeps the game beside its
+-- games file, and the draft stood for a base beside a new games file, the draft now stands for that base with the game.
+-- The new games file then has the record of the game too, behind zero bytes or none.
 abbrev pub Takes : NameLists → Entry → Kept → Kept → Type 0
 Takes names e old new =
     (held : Held) (games fresh : List ℕ) (made : Base) → Keeps names games e held → length fresh ≡ old.end → Represents old fresh made

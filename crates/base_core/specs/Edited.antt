@@ -11,7 +11,7 @@ use Rattle.base_core.specs.declared.fault.What.TheVariants as what
 use Rattle.base_core.specs.Base.{Base}
 use Rattle.base_core.specs.Represents.{Kept, Represents, extents_of, sigs_of}
 
--- The edit was done: where what was kept stands for a base beside a games file, what is kept now stands for the base after the edit beside it.
+-- The edit was done: if what was kept stands for a base beside a games file, what is kept now stands for the base after the edit beside it.
 abbrev pub Does : (Base → Base) → Kept → Kept → Type 0
 Does after old new = (games : List ℕ) (base : Base) → Represents old games base → Represents new games (after base)
 
@@ -24,8 +24,8 @@ pub record ChangedHeads (old new : Kept) : Type 0 where
   pub end : new.end ≡ old.end
   pub unsaved : new.unsaved ≡ true
 
--- The edit was done and placed a record: what was kept stood for a base beside a games file that ends there, and what is kept now stands for
--- the base after the edit beside the games file with that record behind zero bytes or none.
+-- The edit was done and placed a record. If what was kept stood for a base beside a games file that ends there, what is
+-- kept now stands for the base after the edit. The games file then has that record too, behind zero bytes or none.
 abbrev pub Places : List ℕ → (Base → Base) → Kept → Kept → Type 0
 Places bytes after old new =
     (games : List ℕ) (base : Base) → length games ≡ old.end → Represents old games base → Represents new (games ++ padded old.end bytes) (after base)
@@ -43,7 +43,7 @@ full_names names =
     else if nat_lt (limit_of Round) (length names.rounds) then Some what.Rounds
     else None
 
--- The first, or else the games file, where it passes its own.
+-- The first, or else the games file, if it passes its own.
 abbrev pub or_file : Option What → ℕ → Option What
 or_file (Some full) end = Some full
 or_file None end = if nat_lt longest_file end then Some what.File else None
@@ -52,7 +52,7 @@ or_file None end = if nat_lt longest_file end then Some what.File else None
 unfoldable pub first_full : ℕ → NameLists → ℕ → Option What
 first_full games names end = if nat_lt most_games games then Some what.Games else or_file (full_names names) end
 
--- A record of so many bytes can be placed, where that is what would be full.
+-- A record of so many bytes can be placed: it is not too long, and nothing would be full.
 pub record CanPlace (len : ℕ) (full : Option What) : Type 0 where
   pub short : len ≤ longest
   pub room : full ≡ None

@@ -9,7 +9,7 @@ use Rattle.game_tree.specs.declared.tag_edit.TagEdit.{TagEdit}
 use Rattle.name_base.specs.NameLists.{NameLists, with_name}
 use Rattle.base_core.specs.Base.{Base, Held}
 
--- The games with the one of this number changed so, where there is one.
+-- The games with the one of this number changed so, if there is one.
 abbrev pub changed_at : (Held → Held) → ℕ → List Held → List Held
 changed_at change i [] = []
 changed_at change zero (held ∷ games) = change held ∷ games

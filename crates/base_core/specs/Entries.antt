@@ -47,8 +47,8 @@ head_of names e given = record {
   tags = given;
 }
 
--- The entry says this game: its record lies within the games file and is one of the game and of some extra tags, the head is that of the
--- entry and of these tags, settled, and the length is that of the record.
+-- The entry says this game. Its record lies within the games file and is one of the game and of some extra tags. The
+-- head is that of the entry and of these tags, settled, and the length is that of the record.
 pub record Says (names : NameLists) (games : List ℕ) (e : Entry) (held : Held) : Type 0 where
   pub tags : List Tag
   pub within : e.offset + e.len ≤ length games

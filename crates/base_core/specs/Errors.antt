@@ -20,7 +20,7 @@ use Rattle.base_core.specs.declared.fault.SaveError.{SaveError}
 use Rattle.base_core.specs.declared.fault.SaveError.TheVariants as saving
 use Rattle.base_core.specs.declared.fault.What.TheVariants.{File}
 
--- Why a base is not opened where its files do not answer.
+-- Why a base is not opened if its files do not answer.
 abbrev pub open_error : DeviceError → OpenError
 open_error device.Failed = opening.Failed
 open_error device.Memory = opening.Memory
@@ -40,13 +40,13 @@ abbrev pub unwritten_error : EncodeError → EditError
 unwritten_error (encode.TooLong n) = edit.TooLong n
 unwritten_error encode.Memory = edit.Memory
 
--- Why it is not placed where its record is not.
+-- Why it is not placed if its record is not.
 abbrev pub unplaced_error : StoreError → EditError
 unplaced_error store.Full = edit.Full File
 unplaced_error store.Memory = edit.Memory
 unplaced_error store.Failed = edit.Failed
 
--- Why a base is not saved where its files do not answer.
+-- Why a base is not saved if its files do not answer.
 abbrev pub save_error : DeviceError → SaveError
 save_error device.Failed = saving.Failed
 save_error device.Memory = saving.Memory

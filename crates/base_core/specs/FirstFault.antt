@@ -2,6 +2,7 @@
 use Rattle.std.specs.Prelude.{◌≡◌, ◌<◌, ◌+◌, ◌%◌, ◌⊎◌, ℕ, Bool, not, nat_eq, nat_le, nat_lt, if◌then◌else◌, IsTrue, List, length, bytes_eq, Option, Some, None, Result, Ok, Err}
 use Rattle.std.specs.Bool.{beq}
 use Rattle.base_files.specs.Extents.{block_len, record_in}
+use Rattle.cell_core.specs.Steps.{blamed, ◌>>=◌}
 use Rattle.game_tree.specs.Game.{GameTree}
 use Rattle.game_tree.specs.declared.head.Tag.{Tag}
 use Rattle.game_codec.specs.Record.{IsRecord}
@@ -11,7 +12,7 @@ use Rattle.index_entry.specs.Index.{index_read, entry_bytes}
 use Rattle.index_entry.specs.declared.entry.Entry.{Entry}
 use Rattle.index_entry.specs.declared.index.IndexHead.{IndexHead}
 use Rattle.name_base.specs.NameLists.{NameLists}
-use Rattle.name_base.specs.Reading.{◌>>=◌, names_at}
+use Rattle.name_base.specs.Reading.{names_at}
 use Rattle.sig_index.specs.Signature.{IsSig, sig_of}
 use Rattle.sig_index.specs.declared.signature.Sig.{Sig}
 use Rattle.base_core.specs.Entries.{extent_of}
@@ -23,11 +24,6 @@ use Rattle.base_core.specs.declared.fault.PlaceWhat.{PlaceWhat}
 use Rattle.base_core.specs.declared.fault.PlaceWhat.TheVariants as place
 use Rattle.base_core.specs.declared.fault.DerivedField.{DerivedField}
 use Rattle.base_core.specs.declared.fault.DerivedField.TheVariants as derived
-
--- What is read, with the fault as one of the base.
-abbrev pub blamed : {A E : Type 0} → (E → BaseFault) → Result A E → Result A BaseFault
-blamed blame (Ok x) = Ok x
-blamed blame (Err fault) = Err (blame fault)
 
 -- What comes next, unless there is a fault.
 abbrev pub unless : {A E : Type 0} → (E → BaseFault) → Option E → Result A BaseFault → Result A BaseFault
@@ -90,7 +86,7 @@ pub record Signs (bytes : List ℕ) (s : Sig) : Type 0 where
   pub read : IsRecord bytes tags tree
   pub signed : IsSig tree s
 
--- The entry of a game has no fault; derived fields count where the opening is strict.
+-- The entry of a game has no fault; derived fields count if the opening is strict.
 pub record Passes (strict : Bool) (names : NameLists) (games : List ℕ) (game : ℕ) (bytes : List ℕ) : Type 0 where
   pub fields : Entry
   pub checked : entry_checked names (length games) game bytes ≡ Ok fields
@@ -102,7 +98,7 @@ pub record Passes (strict : Bool) (names : NameLists) (games : List ℕ) (game :
 abbrev pub AllPass : Bool → List ℕ → NameLists → List ℕ → ℕ → Type 0
 AllPass strict index names games count = (i : ℕ) → i < count → Passes strict names games i (entry_bytes index i)
 
--- What the entry of a game says, or its first fault: of the entry itself, of its record, of its derived fields where the opening is strict.
+-- What the entry of a game says, or its first fault: of the entry itself, of its record, of its derived fields if the opening is strict.
 unfoldable pub entry_answer : Bool → NameLists → List ℕ → ℕ → List ℕ → Result Entry BaseFault
 entry_answer strict names games game bytes = do
   e ← entry_checked names (length games) game bytes

@@ -20,8 +20,8 @@ abbrev pub IsGameAt : Kept → List ℕ → ℕ → Head → GameTree → Type 0
 IsGameAt kept games i head game =
     (base : Base) (held : Held) → Represents kept games base → slice_get base.games i ≡ Some held → (head ≡ held.head) × (game ≡ held.game)
 
--- The first bytes of the buffer are a record of this game with some tags, the game has the signature that is kept of game i, and the head is the
--- settled head of what is kept with these tags. So it is whatever the files hold.
+-- The first bytes of the buffer are a record of this game with some tags. The game has the signature that is kept of
+-- game i, and the head is the settled head of what is kept with these tags. So it is whatever the files hold.
 abbrev pub IsShown : Kept → ℕ → List ℕ → Head → GameTree → Type 0
 IsShown kept i buf head game =
     (e : Entry) → slice_get kept.entries i ≡ Some e →
@@ -68,7 +68,7 @@ SaysWhy kept told i buf error.Failed = ⊤
 SaysWhy kept told i buf error.Memory = ⊤
 SaysWhy kept told i buf _ = ⊥
 
--- The fact, where the error tells a change.
+-- The fact, if the error tells a change.
 abbrev pub IfChanged : EditError → Type 0 → Type 0
 IfChanged (error.Changed game sig found) Fact = Fact
 IfChanged _ Fact = ⊤

@@ -12,7 +12,7 @@ use Rattle.base_core.specs.Means.{Means}
 use Rattle.base_core.specs.FirstFault.{FirstFault}
 use Rattle.base_core.specs.Represents.{Kept, Represents, Mended}
 
--- A fact about the three contents, where all of them are told.
+-- A fact about the three contents, if all of them are told.
 abbrev pub IfTold : Seen → (List ℕ → List ℕ → List ℕ → Type 0) → Type 0
 IfTold seen Fact = IfSome seen.index (λ index. IfSome seen.names (λ names. IfSome seen.games (λ games. Fact index names games)))
 
@@ -20,11 +20,11 @@ IfTold seen Fact = IfSome seen.index (λ index. IfSome seen.names (λ names. IfS
 abbrev pub are_empty : List ℕ → List ℕ → ℕ → Bool
 are_empty index names end = nat_eq (length index) 0 && nat_eq (length names) 0 && nat_eq end 0
 
--- A base is created where that was asked for and its three files are empty.
+-- A base is created if that was asked for and its three files are empty.
 abbrev pub is_created : Bool → List ℕ → List ℕ → List ℕ → Bool
 is_created create index names games = create && are_empty index names (length games)
 
--- The base that is opened: the empty one where it is created, and else the one that the files mean.
+-- The base that is opened: the empty one if it is created, and else the one that the files mean.
 abbrev pub OpensAs : Bool → List ℕ → List ℕ → List ℕ → Base → Type 0
 OpensAs create index names games base = MatchBool (is_created create index names games) (base ≡ empty_base) (Means index names games base)
 
@@ -33,7 +33,7 @@ pub record Refuses (create strict : Bool) (index names games : List ℕ) (fault 
   pub there : is_created create index names games ≡ false
   pub first : FirstFault strict index names games fault
 
--- A base was opened: what is kept stands for it, so many of its entries were mended, none where the opening is strict, and the files have no
+-- A base was opened: what is kept stands for it, so many of its entries were mended, none if the opening is strict, and the files have no
 -- fault.
 pub record Opens (create strict : Bool) (index names games : List ℕ) (kept : Kept) (mended : ℕ) : Type 0 where
   pub base : Base
@@ -44,7 +44,7 @@ pub record Opens (create strict : Bool) (index names games : List ℕ) (kept : K
   pub sound : (fault : BaseFault) → Refuses create strict index names games fault → ⊥
   pub saved : kept.unsaved ≡ false
 
--- The fact about the fault, where that is the error.
+-- The fact about the fault, if that is the error.
 abbrev pub IfBad : (BaseFault → Type 0) → OpenError → Type 0
 IfBad Fact (error.Bad fault) = Fact fault
 IfBad Fact error.Failed = ⊤

@@ -1,4 +1,4 @@
--- Entries one after the other in one list of bytes, as the list of entries keeps them.
+-- Entries one after the other in one list of bytes, as the list of entries keeps them (this project's own).
 use Rattle.std.specs.Prelude.{◌≡◌, ◌≤◌, ◌<◌, ◌*◌, ℕ, List, length, map, take, drop, slice_get, Some}
 use Rattle.std.specs.List.{range_with_len}
 use Rattle.index_entry.specs.Entry.{IsWritten, entry_in}

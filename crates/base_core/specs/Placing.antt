@@ -1,4 +1,4 @@
--- Placing a game with its names, as the functions of this crate go through it.
+-- Placing a game with its names, as the functions of this crate go through it (this project's own).
 use Rattle.std.specs.Prelude.{◌≡◌, ◌≤◌, ⊤, ℕ, length, take, slice_get, Some}
 use Rattle.game_tree.specs.declared.head.Head.{Head}
 use Rattle.index_entry.specs.declared.entry.Entry.{Entry}

@@ -1,4 +1,4 @@
--- What is read of a game when a base is opened, as the functions of this crate go through it.
+-- What is read of a game when a base is opened, as the functions of this crate go through it (this project's own).
 use Rattle.std.specs.Prelude.{◌≡◌, ◌≤◌, ◌+◌, ◌⊎◌, ℕ, Bool, false, IsTrue, List, length, slice_get, Option, Some, None, is_some, count_by, Ok}
 use Rattle.base_files.specs.Extents.{record_in}
 use Rattle.game_tree.specs.Game.{GameTree}
@@ -103,7 +103,7 @@ pub record AreRead (strict : Bool) (index : List ℕ) (names : NameLists) (games
 abbrev pub IsDecided : List ℕ → Type 0
 IsDecided bytes = ((s : Sig) × Signs bytes s) ⊎ ((what : RecordFault) × IsRecordFault bytes what)
 
--- So are those of the record of a game, where its entry can be read and the record lies within the games file.
+-- So are those of the record of a game, if its entry can be read and the record lies within the games file.
 abbrev pub IsGameDecided : List ℕ → List ℕ → ℕ → Type 0
 IsGameDecided index games game =
     (e : Entry) → entry_read (entry_bytes index game) ≡ Ok e → e.offset + e.len ≤ length games → IsDecided (record_in games (extent_of e))

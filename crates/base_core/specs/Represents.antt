@@ -37,8 +37,8 @@ pub record Represents (kept : Kept) (games : List ℕ) (base : Base) : Type 0 wh
   pub count : length kept.entries ≡ length base.games
   pub each : (i : ℕ) (e : Entry) (held : Held) → slice_get kept.entries i ≡ Some e → slice_get base.games i ≡ Some held → Keeps kept.names games e held
 
--- A kept entry, whatever the games file holds: its fields are in their ranges, its ids have names, its record lies within the games file,
--- and it has at most sixteen home values.
+-- A kept entry, whatever the games file holds. Its fields are in their ranges, its ids have names, its record lies
+-- within the games file, and it has at most sixteen home values.
 pub record IsKept (names : NameLists) (end : ℕ) (e : Entry) : Type 0 where
   pub fields : IsEntry e
   pub named : HasNames names e

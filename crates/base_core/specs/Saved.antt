@@ -42,11 +42,11 @@ pub record OpensAgain (index names games : List ℕ) (base : Base) : Type 0 wher
   pub faultless : (strict : Bool) (fault : BaseFault) → FirstFault strict index names games fault → ⊥
   pub opened : (create strict : Bool) (kept : Kept) (mended : ℕ) → Opens create strict index names games kept mended → Represents kept games base
 
--- Where the files are told, and what is kept stands for a base, they mean it now and open again as it.
+-- If the files are told, and what is kept stands for a base, they mean it now and open again as it.
 abbrev pub MeansIt : Kept → Seen → Type 0
 MeansIt kept seen = IfTold seen (λ index names games. (base : Base) → Represents kept games base → OpensAgain index names games base)
 
--- The told files carry each base that they carried, where each of the names that they hold has the id in what is kept that it has there.
+-- The told files carry each base that they carried, if each of the names that they hold has the id in what is kept that it has there.
 abbrev pub StillCarries : Kept → Seen → Seen → Type 0
 StillCarries kept old new =
     IfTold old (λ index names games. IfTold new (λ i n g. (base : Base) (carried : Carries index names games base) → HoldsNames kept.names carried.all_names → Carries i n g base))

@@ -16,7 +16,7 @@ use Rattle.base_core.specs.GameAt.{IsChanged, IsGameAt, IsShown}
 use Rattle.base_core.specs.Represents.{Kept, Represents}
 
 -- A game was read into the buffer and put in the place of game i with its head edited, for which there was room. It has the signature that was kept
--- there, and is the game there, where the files tell the base.
+-- there, and is the game there, if the files tell the base.
 pub record IsTagged (i : ℕ) (edit : TagEdit) (old new : Kept) (before after : Seen) (buf : List ℕ) : Type 0 where
   pub head : Head
   pub game : GameTree
@@ -26,7 +26,7 @@ pub record IsTagged (i : ℕ) (edit : TagEdit) (old new : Kept) (before after : 
   pub room : CanPlace (length (written_record (edited head edit).tags game)) (first_full (length old.entries) (names_with (edited head edit) old.names) (end_with (edited head edit) game old.end))
   pub appended : after ≡ appended (padded old.end (written_record (edited head edit).tags game)) before
 
--- Where the files tell the base, they hold it afterwards with the tag set.
+-- If the files tell the base, they hold it afterwards with the tag set.
 abbrev pub Tags : ℕ → TagEdit → Kept → Kept → Option (List ℕ) → Option (List ℕ) → Type 0
 Tags i edit old new told now =
     IfSome told (λ games. IfSome now (λ after. (base : Base) → Represents old games base → Represents new after (tagged i edit base)))

@@ -24,8 +24,8 @@ use name_base::{Names, PartNames};
 use std::alloc::{AllocError, Global};
 use std::marker::Model;
 
-/// A base that takes over games of an open base one by one: their heads, the names that they use, and the places that their records are
-/// to have in a new games file.
+/// A base that takes over games of an open base one by one. It has their heads, the names that they use, and the places
+/// that their records are to have in a new games file.
 #[derive(Drop)]
 pub struct Draft {
     base: Base,
@@ -74,12 +74,14 @@ impl Draft {
         self.base.entries.len()
     }
 
-    /// Takes the game of an entry whose derived fields are those of its record, with the names of its ids, `?` for each that is not
-    /// there. Gives the number of zero bytes before its record.
+    /// Takes the game of an entry whose derived fields are those of its record, with the names of its ids, and `?` for
+    /// each id without a name. Gives the number of zero bytes before its record.
     ///
     /// # Errors
     ///
-    /// `Full` exactly where the names of a kind or the games file would pass their limit, the first of them in this order, and `Memory`.
+    /// - `Full` if the names of a kind or the games file would pass their limit, with the first of them in this order.
+    /// - `Memory` for want of memory.
+    ///
     /// The draft is then as it was.
     pub fn take(&mut self, alloc: Global, of: &PartNames, e: &Entry) -> Result<u32, EditError>
         requires fields { IsEntry e.now }
@@ -99,7 +101,10 @@ impl Draft {
     ///
     /// # Errors
     ///
-    /// `Full` exactly where its record would end behind 4,294,967,295 bytes, and `Memory`. The draft is then as it was.
+    /// - `Full` if its record would end behind 4,294,967,295 bytes, and only then.
+    /// - `Memory` for want of memory.
+    ///
+    /// The draft is then as it was.
     pub fn push(&mut self, alloc: Global, base: &Base, i: u32) -> Result<u32, DraftError>
         requires there { i < length base.now.entries }
         requires few { length self.old.entries ≤ i }

@@ -64,8 +64,9 @@ pub enum DerivedField {
     Home,
 }
 
-/// The first fault of the files of a base, in the order in which opening looks at them: the index, the names, and then game by game
-/// the fields of its entry, its ids, the place of its record, the record, and where the opening is strict its derived fields.
+/// The first fault of the files of a base, in the order in which opening looks at them. The index comes first, and then
+/// the names. Then come, game by game, the fields of its entry, its ids, the place of its record, the record, and with
+/// a strict opening its derived fields.
 #[derive(Clone, Copy, Debug, Drop, PartialEq, Eq, Error)]
 pub enum BaseFault {
     /// The index has no good header, or too few entries.
@@ -258,7 +259,7 @@ impl From<NamesError> for OpenError {
     }
 }
 
-// Why a game is not given that has this signature, where its record is not read.
+// Why a game is not given that has this signature, if its record is not read.
 pub(crate) fn unread_error(game: u32, kept: Sig, error: DecodeError) -> EditError
     ensures error { result ≡ unread_error game kept error }
 {

@@ -27,12 +27,14 @@ use sig_index::{HomeList, Sig, sig_ending, signed};
 use std::alloc::{AllocError, Global};
 
 impl Base {
-    /// The head and the game of a number. The record is read into `buf`, whose first bytes it then is.
+    /// Gives the head and the game of a number. The record is read into `buf`, whose first bytes it then is.
     ///
     /// # Errors
     ///
-    /// `NoGame` exactly where there is no game of this number. `Changed` where the record has changed since the base was opened, `Failed`
-    /// where the files fail, and `Memory`.
+    /// - `NoGame` if and only if there is no game of this number.
+    /// - `Changed` if the record has changed since the base was opened.
+    /// - `Failed` if the files fail.
+    /// - `Memory` for want of memory.
     pub fn game<F: Files>(
         &self,
         alloc: Global,

@@ -27,7 +27,7 @@ pub fn files_mean_a_base_or_have_a_fault(index: &[u8], names: &[u8], games: &[u8
     }
 }
 
-// The record of a game is one or has a fault, where it lies within the games file.
+// The record of a game is one or has a fault, if it lies within the games file.
 fn decide_game(index: &[u8], games: &[u8], game: u32)
     requires there { 229 + 47 * game ≤ length index.now }
     ensures decided { IsGameDecided index.now games.now game }

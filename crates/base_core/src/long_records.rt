@@ -56,7 +56,7 @@ impl LookedAt {
     }
 }
 
-/// The last few records of at least 4,096 bytes that were looked at. Where there is no memory to keep one, it is not kept.
+/// The last few records of at least 4,096 bytes that were looked at. A record is not kept for want of memory.
 #[derive(Drop)]
 pub(crate) struct LongRecords {
     alloc: Global,
@@ -103,7 +103,7 @@ impl LongRecords {
         None
     }
 
-    // Keeps a record in the place of the oldest one, where there are as many as are kept.
+    // Keeps a record. If as many as may be are kept already, it takes the place of the oldest one.
     fn keep(&mut self, bytes: &[u8], sig: Sig)
         requires has { HasSig bytes.now sig }
         requires bounded { IsSigBounded sig }

@@ -13,7 +13,7 @@ impl Base {
     ///
     /// # Errors
     ///
-    /// `NoGame` exactly where there is no game of this number.
+    /// `NoGame` if and only if there is no game of this number.
     pub fn delete(&mut self, i: u32) -> Result<(), NoGame>
         ensures deleted { OnOk result (Does (deleted i) self.old self.new) }
         ensures heads { OnOk result (ChangedHeads self.old self.new) }
@@ -32,7 +32,7 @@ impl Base {
     ///
     /// # Errors
     ///
-    /// `NoGame` exactly where there is no game of this number.
+    /// `NoGame` if and only if there is no game of this number.
     pub fn undelete(&mut self, i: u32) -> Result<(), NoGame>
         ensures undeleted { OnOk result (Does (undeleted i) self.old self.new) }
         ensures heads { OnOk result (ChangedHeads self.old self.new) }
@@ -51,7 +51,7 @@ impl Base {
     ///
     /// # Errors
     ///
-    /// `NoGame` exactly where there is no game of this number.
+    /// `NoGame` if and only if there is no game of this number.
     pub fn mark(&mut self, i: u32, bit: u8, on: bool) -> Result<(), NoGame>
         requires mark { bit < 18 }
         ensures marked { OnOk result (Does (marked i bit on) self.old self.new) }
@@ -72,7 +72,7 @@ impl Base {
     ///
     /// # Errors
     ///
-    /// `NoGame` exactly where there is no game of this number.
+    /// `NoGame` if and only if there is no game of this number.
     pub fn set_eco(&mut self, i: u32, eco: u16) -> Result<(), NoGame>
         requires eco { eco ≤ 65500 }
         ensures classified { OnOk result (Does (classified i eco) self.old self.new) }
@@ -88,7 +88,7 @@ impl Base {
         Ok(())
     }
 
-    // What is kept of game `i`, where there is one.
+    // What is kept of game `i`, if there is one.
     pub(crate) fn entry_there(&self, i: u32) -> Result<Entry, NoGame>
         ensures at { IfOk result (λ entry. slice_get self.now.entries i ≡ Some entry) }
         ensures kept { IfOk result (IsKept self.now.names self.now.end) }

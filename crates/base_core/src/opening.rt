@@ -30,16 +30,19 @@ struct Loaded {
 }
 
 impl Base {
-    /// Opens the base that was chosen, and tells how many of its entries had a derived field that was mended. With `create`, three
-    /// empty files are a base without games. With `strict` a derived field that differs from the record's is a fault.
+    /// Opens the base that was chosen, and tells how many of its entries had a derived field that was mended. With
+    /// `create`, three empty files are a base without games. With `strict` a derived field that differs from the
+    /// record's is a fault.
     ///
     /// Each record is read once, into `buf`.
     ///
     /// # Errors
     ///
-    /// `Bad` with the first fault of the files, in this order: the index, the names file, and then for each game the fields of its
-    /// entry, its ids, the place of its record, the record, and with `strict` its derived fields. `Failed` where the files fail, and
-    /// `Memory`.
+    /// - `Bad` with the first fault of the files. The index comes first, and then the names file. Then come, for each
+    ///   game, the fields of its entry, its ids, the place of its record, the record, and with `strict` its derived
+    ///   fields.
+    /// - `Failed` if the files fail.
+    /// - `Memory` for want of memory.
     pub fn open_base<F: Files>(
         alloc: Global,
         files: &mut F,

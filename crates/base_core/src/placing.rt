@@ -40,9 +40,13 @@ impl Base {
     ///
     /// # Errors
     ///
-    /// `TooLong` exactly where its record would have more than 131,071 bytes; `Full` exactly where the games, the names of a kind or the
-    /// games file would pass their limit, the first of them in this order; `Failed` where the files fail, and `Memory`. The base is then
-    /// as it was. After `Failed` it is not to be used again.
+    /// - `TooLong` if its record would have more than 131,071 bytes.
+    /// - `Full` if the games, the names of a kind or the games file would pass their limit, with the first of them in
+    ///   this order.
+    /// - `Failed` if the files fail.
+    /// - `Memory` for want of memory.
+    ///
+    /// The base is then as it was. After `Failed` it is not to be used again.
     pub fn add<F: Files>(
         &mut self,
         alloc: Global,
@@ -101,13 +105,18 @@ impl Base {
         Ok(i)
     }
 
-    /// Puts a game in the place of game `i`. Its record goes to the end of the games file, and the old one stays where it is.
+    /// Puts a game in the place of game `i`. Its record goes to the end of the games file, and the old one stays where
+    /// it is.
     ///
     /// # Errors
     ///
-    /// `NoGame` exactly where there is no game of this number; `TooLong` exactly where the record would have more than 131,071 bytes;
-    /// `Full` exactly where the names of a kind or the games file would pass their limit, the first of them in this order; `Failed` where
-    /// the files fail, and `Memory`. The base is then as it was. After `Failed` it is not to be used again.
+    /// - `NoGame` if and only if there is no game of this number.
+    /// - `TooLong` if the record would have more than 131,071 bytes.
+    /// - `Full` if the names of a kind or the games file would pass their limit, with the first of them in this order.
+    /// - `Failed` if the files fail.
+    /// - `Memory` for want of memory.
+    ///
+    /// The base is then as it was. After `Failed` it is not to be used again.
     pub fn replace_game<F: Files>(
         &mut self,
         alloc: Global,
@@ -167,9 +176,11 @@ impl Base {
     ///
     /// # Errors
     ///
-    /// `NoGame` exactly where there is no game of this number; `Changed` where the record has changed since the base was opened; then
-    /// `TooLong`, `Full`, `Failed` and `Memory` as those of `replace_game`. The base is then as it was. After `Failed` it is not to be
-    /// used again.
+    /// - `NoGame` if and only if there is no game of this number.
+    /// - `Changed` if the record has changed since the base was opened.
+    /// - `TooLong`, `Full`, `Failed` and `Memory` as those of `replace_game`.
+    ///
+    /// The base is then as it was. After `Failed` it is not to be used again.
     pub fn set_tag<F: Files>(
         &mut self,
         alloc: Global,
@@ -189,7 +200,7 @@ impl Base {
         ensures unsaved { OnOk result (self.new.unsaved ≡ true) }
         ensures no_game { IsErrOf result (EditError.NoGame i) ↔ (length self.old.entries ≤ i) }
         ensures why { IfErr result (WhyNotTagged self.old (F.seen files.old).games i edit.now buf.new) }
-        // Where the files tell the records of a base, no game has changed.
+        // If the files tell the records of a base, no game has changed.
         ensures same { IfErr result (λ error. IfChanged error (IfSome (F.seen files.old).games (λ games. (base : PlainBase) → Represents self.old games base → ⊥))) }
         ensures unchanged { OnErr result (self.new ≡ self.old) }
         // Each name keeps its id.

@@ -20,7 +20,7 @@ impl Base {
     ///
     /// # Errors
     ///
-    /// `Failed` where the files fail, and `Memory`. The changes are then as unsaved as they were, and the files carry the base that they
+    /// `Failed` if the files fail, and `Memory`. The changes are then as unsaved as they were, and the files carry the base that they
     /// carried.
     pub fn save<F: Files>(&mut self, alloc: Global, files: &mut F) -> Result<(), SaveError>
         requires at_end { IsEnd self.old.end (F.seen files.old) }

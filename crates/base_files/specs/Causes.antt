@@ -6,7 +6,7 @@ use Rattle.base_files.specs.declared.faults.Stop.{Stop}
 use Rattle.base_files.specs.declared.faults.Stop.TheVariants as stop
 use Rattle.base_files.specs.Counters.{Rose, raised}
 
--- The cause of a device's error, where its count of faults went from `old` to `new`: a fault was counted; want of memory is free.
+-- The cause of a device's error, if its count of faults went from `old` to `new`: a fault was counted; want of memory is free.
 abbrev pub HasCause : DeviceError → ℕ → ℕ → Type 0
 HasCause device.Failed old new = Rose old new
 HasCause device.Memory old new = ⊤

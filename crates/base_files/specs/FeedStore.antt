@@ -13,7 +13,7 @@ abbrev pub budget_of : Store → ℕ
 budget_of (Once bytes next) = length bytes.items - next
 budget_of (Again piece next budget) = budget
 
--- The next byte is within the bytes, or at their end where they are given once.
+-- The next byte is within the bytes, or at their end if they are given once.
 abbrev pub IsWithin : Store → Type 0
 IsWithin (Once bytes next) = next ≤ length bytes.items
 IsWithin (Again piece next budget) = next < length piece.items

@@ -2,7 +2,7 @@
 use Rattle.std.specs.Prelude.{ℕ, ◌-◌, ◌==◌, Bool, ◌||◌, ◌&&◌, is_none, min, List, drop, Option, None, Some}
 use Rattle.base_files.specs.Planned.{Calls, is_planned, passed, failed}
 
--- The bytes left where they are told, how many it gives still, how many it gives at most in one call, and its calls.
+-- The bytes left if they are told, how many it gives still, how many it gives at most in one call, and its calls.
 pub record Feed : Type 0 where
   pub left : Option (List ℕ)
   pub budget : ℕ

@@ -9,13 +9,13 @@ abbrev pub MoreThan : ℕ → Option (List ℕ) → Type 0
 MoreThan limit None = ⊤
 MoreThan limit (Some told) = limit < length told
 
--- The fact about the bytes, where the whole input was read.
+-- The fact about the bytes, if the whole input was read.
 abbrev pub IfWhole : Result Input DeviceError → (List ℕ → Type 0) → Type 0
 IfWhole (Ok (Whole bytes)) fact = fact bytes.items
 IfWhole (Ok TooLong) fact = ⊤
 IfWhole (Err error) fact = ⊤
 
--- The fact, where the input has more bytes than the limit.
+-- The fact, if the input has more bytes than the limit.
 abbrev pub IfTooLong : Result Input DeviceError → Type 0 → Type 0
 IfTooLong (Ok (Whole bytes)) fact = ⊤
 IfTooLong (Ok TooLong) fact = fact

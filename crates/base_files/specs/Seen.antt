@@ -5,8 +5,9 @@ use Rattle.base_files.specs.Chosen.{Choice, choice}
 use Rattle.base_files.specs.declared.part.Part.{Part}
 use Rattle.base_files.specs.declared.part.Part.TheVariants.{Index, Names}
 
--- The contents of the three files and of the new games file, where the object tells them; the names that `choose` was given, the last
--- one last; the length of the games file that is known; and how many bytes were added to the new games file since it was begun.
+-- What a files object shows: the contents of the three files and of the new games file, if the object tells them.
+-- `choices` has the names that `choose` was given, the last one last, and `known` is the length of the games file that
+-- is known. `added` counts the bytes that were added to the new games file since it was begun.
 pub record Seen : Type 0 where
   pub index : Option (List ℕ)
   pub names : Option (List ℕ)
@@ -43,7 +44,7 @@ pub record AppendedInPart (old new : Seen) : Type 0 where
   pub grew : Grew old.games new.games
   pub rest : new ≡ record old { games = new.games }
 
--- After a new games file was begun: it is empty, and told where the current one is.
+-- After a new games file was begun: it is empty, and told if the current one is.
 abbrev pub begun : Seen → Seen
 begun seen = record seen { fresh = told_instead [] seen.games; added = 0 }
 

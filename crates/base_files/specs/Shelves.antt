@@ -8,8 +8,9 @@ use Rattle.base_files.specs.declared.swap.Swap.{Swap}
 use Rattle.base_files.specs.declared.part.Part.{Part}
 use Rattle.base_files.specs.declared.part.Part.TheVariants.{Index, Names}
 
--- The three contents and the new games file, the names that were chosen, the known length of the games file, the bytes asked of it,
--- the calls, and the bytes of the games file that change by themselves, if any may.
+-- The three contents and the new games file, with the names that were chosen. Beside them are the known length of the
+-- games file, the bytes asked of it, and the calls. `swaps` has the bytes of the games file that change by themselves,
+-- if any may.
 pub record Shelf : Type 0 where
   pub index : List ℕ
   pub names : List ℕ
@@ -43,7 +44,7 @@ changing_shelf index names games swaps = record (new_shelf index names games [])
 abbrev pub changed : Shelf → Shelf
 changed shelf = record shelf { games = games_before shelf.calls.made shelf.swaps shelf.games }
 
--- What files in memory show: all of their contents, but none where the games file changes by itself.
+-- What files in memory show: all of their contents, but none if the games file changes by itself.
 abbrev pub seen_of : Shelf → Seen
 seen_of shelf = record {
   index = told_of shelf.swaps shelf.index;

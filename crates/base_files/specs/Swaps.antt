@@ -3,7 +3,7 @@ use Rattle.std.specs.Prelude.{ℕ, ◌==◌, if◌then◌else◌, List, [], ◌�
 use Rattle.std.specs.Global.{Vec}
 use Rattle.base_files.specs.declared.swap.Swap.{Swap}
 
--- The games file before the call of this number, where a byte may be put. A place past the end changes nothing.
+-- The games file before the call of this number, if a byte may be put. A place past the end changes nothing.
 abbrev pub after_swap : ℕ → Swap → List ℕ → List ℕ
 after_swap call swap games = if swap.before == call then slice_set games swap.place swap.byte else games
 
@@ -22,7 +22,7 @@ abbrev pub games_before : ℕ → Option (List Swap) → List ℕ → List ℕ
 games_before call None games = games
 games_before call (Some swaps) games = swapped call swaps games
 
--- What is told of the contents: nothing, where they may change by themselves.
+-- What is told of the contents: nothing, if they may change by themselves.
 abbrev pub told_of : Option (List Swap) → List ℕ → Option (List ℕ)
 told_of None bytes = Some bytes
 told_of (Some swaps) bytes = None

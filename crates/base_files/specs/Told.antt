@@ -1,4 +1,5 @@
--- Contents that an object may tell: `Some` of the bytes where it tells them, `None` where it does not (this project's own).
+-- Contents that an object may tell: `Some` of the bytes, or `None` from an object that tells nothing (this project's
+-- own).
 use Rattle.std.specs.Prelude.{◌≡◌, ℕ, List, ◌++◌, take, drop, length, ⊤, Option, None, Some}
 
 -- What is told after the bytes are added at its end: an object that tells nothing goes on telling nothing.
@@ -11,12 +12,12 @@ abbrev pub before : List ℕ → Option (List ℕ) → Option (List ℕ)
 before bytes None = None
 before bytes (Some told) = Some (bytes ++ told)
 
--- `bytes` is what is told, where anything is.
+-- `bytes` is what is told, if anything is.
 abbrev pub Tells : Option (List ℕ) → List ℕ → Type 0
 Tells None bytes = ⊤
 Tells (Some told) bytes = bytes ≡ told
 
--- `count` is the number of bytes told, where they are.
+-- `count` is the number of bytes told, if they are.
 abbrev pub TellsLength : Option (List ℕ) → ℕ → Type 0
 TellsLength None count = ⊤
 TellsLength (Some told) count = count ≡ length told

@@ -18,7 +18,7 @@ use std::alloc::{AllocError, Global};
 use std::marker::Model;
 use std::mem;
 
-/// Three contents in memory, which are always there, and the new games file. Where adding to the games file fails, a front part is
+/// Three contents in memory, which are always there, and the new games file. If adding to the games file fails, a front part is
 /// written. The games file may change by itself: then nothing is told of them.
 #[derive(Drop)]
 pub struct MemFiles {
@@ -315,7 +315,7 @@ impl Files for MemFiles {
     }
 }
 
-// Adds so many zero bytes and then the bytes at the end. Where memory runs out the list is as it was.
+// Adds so many zero bytes and then the bytes at the end. If memory runs out, the list is as it was.
 fn add_padded(list: &mut Vec<u8>, pad: u32, bytes: &[u8]) -> Result<(), AllocError>
     ensures added { OnOk result (list.new.items ≡ list.old.items ++ (replicate pad 0 ++ bytes.now)) }
     ensures unchanged { OnErr result (list.new.items ≡ list.old.items) }
@@ -329,7 +329,7 @@ fn add_padded(list: &mut Vec<u8>, pad: u32, bytes: &[u8]) -> Result<(), AllocErr
     Ok(())
 }
 
-// Adds what a device has written when it fails: the zero bytes and the first half of the bytes, or nothing where memory runs out.
+// Adds what a device has written when it fails: the zero bytes and the first half of the bytes, or nothing if memory runs out.
 fn add_torn(list: &mut Vec<u8>, pad: u32, bytes: &[u8])
     ensures in_part { IsPrefix list.old.items list.new.items }
 {

@@ -41,7 +41,7 @@ impl Plan {
         self.made
     }
 
-    /// Counts a call, and its fault where it is to fail.
+    /// Counts a call, and its fault if it is to fail.
     pub fn begin(&mut self) -> Result<(), Failed>
         ensures planned { MatchResult result (λ _. Served self.old self.new) (λ _. FailedAsPlanned self.old self.new) }
         ensures counts { self.old.faults ≤ self.new.faults }

@@ -20,7 +20,7 @@ pub enum Input {
 /// How many bytes are asked of a source at once.
 const PIECE: usize = 4096;
 
-/// Reads the source to its end, where that comes within `limit` bytes. At most `limit + 1` bytes are read.
+/// Reads the source to its end, if that comes within `limit` bytes. At most `limit + 1` bytes are read.
 #[tactic(auto, using(crate::proofs::Telling::advances))]
 pub fn read_to_limit<S: Source>(
     alloc: Global,

@@ -7,7 +7,7 @@ use crate::faults::DeviceError;
 
 /// A taker of bytes.
 pub trait Sink {
-    // The bytes taken, where the sink tells them.
+    // The bytes taken, if the sink tells them.
     ghost taken: { Self → Option (List ℕ) };
 
     // How many faults it has counted.

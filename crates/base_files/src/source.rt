@@ -7,7 +7,7 @@ use crate::faults::Failed;
 
 /// A source of bytes, read to its end once.
 pub trait Source {
-    // The bytes left, where the source tells them.
+    // The bytes left, if the source tells them.
     ghost left: { Self → Option (List ℕ) };
 
     // At most how many bytes it will still give: a number for every source, so that every loop over a source ends.
@@ -16,7 +16,7 @@ pub trait Source {
     // How many faults it has counted.
     ghost faults: { Self → ℕ };
 
-    // What it reads from, which no call changes: the ghost names of what it borrows, and nothing where it has its bytes itself.
+    // What it reads from, which no call changes: the ghost names of what it borrows, and nothing if it has its bytes itself.
     ghost origin: { Self → List ℕ };
 
     /// Reads the next bytes into the front of `into`, which is not empty, and says how many: none only at the end of the input.

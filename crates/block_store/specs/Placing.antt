@@ -10,7 +10,7 @@ use Rattle.base_files.specs.declared.faults.DeviceError.TheVariants as device
 use Rattle.block_store.specs.declared.fault.StoreError.{StoreError}
 use Rattle.block_store.specs.declared.fault.StoreError.TheVariants as store
 
--- How many zero bytes come before a record of `len` bytes, where the games file ends at `end`.
+-- How many zero bytes come before a record of `len` bytes, if the games file ends at `end`.
 unfoldable pub padding : ℕ → ℕ → ℕ
 padding end len = if nat_le (end % block_len + len) block_len then 0 else block_len - end % block_len
 

@@ -64,10 +64,10 @@ impl Store {
         files.read_games(extent.offset, extent.len, buf)
     }
 
-    /// Adds a record of 1 to 131,071 bytes to the games file: at its end, if it fits into the block there, and else at the
-    /// beginning of the next block, behind zero bytes.
+    /// Adds a record of 1 to 131,071 bytes to the games file: at its end, if it fits into the block there, and else at
+    /// the beginning of the next block, behind zero bytes.
     ///
-    /// `Full` comes exactly where the games file would then pass 4,294,967,295 bytes, and `Memory` where the files want
+    /// `Full` comes if and only if the games file would then pass 4,294,967,295 bytes, and `Memory` if the files want
     /// memory; with both nothing was done. After `Failed` the store is not to be used again.
     pub fn place<F: Files>(&mut self, bytes: &[u8], files: &mut F) -> Result<Extent, StoreError>
         requires some { 0 < length bytes.now }

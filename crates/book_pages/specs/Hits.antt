@@ -18,7 +18,7 @@ use Rattle.tree_rows.specs.declared.hit.GameHit.{GameHit}
 abbrev pub exactly : Men → Colour → PosQuery
 exactly board side = record { mode = Exact; board = board; side = side; vars = false }
 
--- What a tree counts of a game: its first match with the move after it, where its main line meets the position.
+-- What a tree counts of a game: its first match with the move after it, if its main line meets the position.
 abbrev pub hit_of_game : PosQuery → Head → GameTree → Option GameHit
 hit_of_game query head game = option_map (λ (found : ℕ × Option Move). hit_of found.1 query.side head) (position.hit_of query game)
 

@@ -89,7 +89,7 @@ abbrev pub is_at : Option ℕ → ℕ → Bool
 is_at None k = false
 is_at (Some number) k = number == k
 
--- Where a game stands on a board, it is counted there, unless it was before.
+-- If a game stands on a board, it is counted there, unless it was before.
 abbrev pub IsHere : Bool → ℕ → GameHit → Tallied → Tallied → Type 0
 IsHere true i hit before after = (before.last ≡ Some i → after ≡ before) × ((before.last ≡ Some i → ⊥) → IsMet i hit before after)
 IsHere false i hit before after = after ≡ before

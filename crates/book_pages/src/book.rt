@@ -319,7 +319,7 @@ fn fewest_in(boards: &[PackedBoard]) -> u16
     fewest
 }
 
-// A board has at least so many men: those that are there, where it is one of a position.
+// A board has at least so many men: those that are there, if it is one of a position.
 fn men_on(board: &PackedBoard) -> u16
     ensures board { IsBoard result board.now }
 {

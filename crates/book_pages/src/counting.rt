@@ -41,9 +41,9 @@ enum Course {
     Broken,
 }
 
-/// Counts the game of a record on the boards that its main line reaches, on each where it reaches it first, and answers whether the bytes
-/// were seen to be no record: then, and after want of memory, nothing is said of what was counted. No board has fewer men than `fewest`,
-/// kings not counted.
+/// Counts the game of a record on the boards that its main line reaches, on each at the place where the line reaches it
+/// first. It answers whether the bytes may be a record. If they are none, and after want of memory, nothing is known of
+/// what was counted. No board has fewer men than `fewest`, kings not counted.
 pub(crate) fn count_record(
     alloc: Global,
     boards: &IndexSet<PackedBoard>,
@@ -134,7 +134,7 @@ fn place_of(boards: &IndexSet<PackedBoard>, place: &Position) -> Option<usize>
     boards.get_index_of(&pack(place.board(), place.side()))
 }
 
-// Counts a game on a board, if it stands on one, where it was not counted there before.
+// Counts a game on a board, if it stands on one and was not counted there before.
 fn meet(
     tallies: &mut [Tally],
     here: Option<usize>,

@@ -7,8 +7,8 @@ use cell_core::{Board, Colour, Move, pack, unpack};
 use std::alloc::{AllocError, Global};
 use tree_rows::needed;
 
-/// The order in which the pages of a book are found: from the start on by the moves that most games made, page after page; and where
-/// pages are left that no page leads to, from each of them on in the same way.
+/// The order in which the pages of a book are found. It goes from the start on by the moves that most games made, page
+/// after page. If pages are left that no page leads to, it goes on from each of them in the same way.
 #[derive(Drop)]
 pub struct Order {
     // The pages in the order in which they are found.

@@ -44,7 +44,7 @@ pub(crate) struct Tracker {
 }
 
 impl Tracker {
-    /// The game of this number, at its beginning, where the book is so deep.
+    /// The game of this number, at its beginning, if the book is so deep.
     pub(crate) fn new(depth: u8, game: u32, worth: Worth) -> Tracker {
         Tracker {
             depth: usize::from(depth),

@@ -1,4 +1,4 @@
--- A board as contracts see it.
+-- A board as contracts see it: what stands on each of its squares (FIDE Laws, Article 2.1; their numbers are this project's own).
 use Rattle.std.specs.Prelude.{ℕ, Bool, List, Option, None, slice_index_or, slice_set}
 use Rattle.std.specs.Option.{option_eq}
 use Rattle.std.specs.Cmp.Lexicographic.{pointwise}

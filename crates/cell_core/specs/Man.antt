@@ -1,4 +1,4 @@
--- Men and their colours.
+-- Men: their colours and their kinds (FIDE Laws, Article 2.2; the numbers of kinds are this project's own).
 use Rattle.std.specs.Prelude.{ℕ, Bool, true, false, ◌&&◌, ◌==◌, Option, Some, None}
 use Rattle.cell_core.specs.declared.man.Colour.{Colour}
 use Rattle.cell_core.specs.declared.man.Colour.TheVariants.{White, Black}

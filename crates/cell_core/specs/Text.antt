@@ -1,4 +1,4 @@
--- Texts: names, tags and comments.
+-- Texts: names, tags and comments (this project's own).
 use Rattle.std.specs.Prelude.{ℕ, ◌≢◌, List, All}
 
 -- No byte is zero (this project's own: a zero byte ends a stored text).

@@ -76,8 +76,8 @@ impl Board {
         Board { cells, sets }
     }
 
-    /// The board with these men on its 64 squares, which are known to be those of the sets, a bit a square: of each kind,
-    /// from king to pawn, and of White and Black.
+    /// The board with these men on its 64 squares. The sets are known to be those of the men, a bit a square: of each
+    /// kind, from king to pawn, and of White and Black.
     pub fn with_sets(cells: [Option<Man>; 64], kinds: [u64; 6], colours: [u64; 2]) -> Board
         requires sets { sets_of cells ≡ record { kinds = kinds; colours = colours } }
         ensures men { result ≡ cells }
@@ -173,7 +173,7 @@ impl Board {
         self.enter(target, Some(arriving));
     }
 
-    /// Takes this man away from the square on which he stands.
+    /// Takes this man away from the square on which it stands.
     #[inline(always)]
     fn take(&mut self, number: u8, man: Man)
         requires on_board { number < 64 }

@@ -7,8 +7,8 @@ use super::man::{Colour, Kind, Man};
 use std::hash::{Hash, Hasher};
 use std::marker::Model;
 
-/// A board and the side to move in four words: what stands on a square in four bits, one in each word, at the bit of the
-/// square. Two packed boards are equal exactly where their boards and their sides are.
+/// A board and the side to move in four words. What stands on a square takes four bits: one in each word, at the bit of
+/// the square. Two packed boards are equal if and only if their boards and their sides are.
 #[derive(Clone, Copy, Debug, PartialEq, Eq, PartialOrd, Ord)]
 pub struct PackedBoard {
     cells: [u64; 4],

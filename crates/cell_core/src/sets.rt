@@ -32,6 +32,7 @@ impl Sets {
     }
 
     /// A man comes to an empty square.
+    #[inline(always)]
     pub(crate) fn add(&mut self, s: u8, man: Man)
         requires { s < 64 }
         ensures sets { (men : Men) → length men ≡ 64 → self.old ≡ sets_of men → man_at men s ≡ None → self.new ≡ sets_of (put men s (Some man)) }
@@ -41,7 +42,8 @@ impl Sets {
         self.colours[colour_place(man.colour)] |= square;
     }
 
-    /// A man leaves his square.
+    /// Takes a man away from its square.
+    #[inline(always)]
     pub(crate) fn remove(&mut self, s: u8, man: Man)
         requires { s < 64 }
         ensures sets { (men : Men) → length men ≡ 64 → self.old ≡ sets_of men → man_at men s ≡ Some man → self.new ≡ sets_of (put men s None) }

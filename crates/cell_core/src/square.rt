@@ -3,7 +3,7 @@ ghost use Rattle.std.specs.Prelude.{◌≡◌, ◌<◌, ◌≤◌, SomeIff};
 
 use std::marker::Model;
 
-/// A square of the board, numbered from a1 = 0 to h8 = 63, file by file within a rank: its file is its number modulo 8,
+/// A square of the board, numbered from a1 = 0 to h8 = 63, file by file within a rank. Its file is its number modulo 8,
 /// and its rank its number divided by 8, both from 0.
 #[derive(Clone, Copy, Debug, Default, PartialEq, Eq, PartialOrd, Ord, Hash)]
 pub struct Square {
@@ -23,7 +23,7 @@ impl Model for Square {
 }
 
 impl Square {
-    /// The square with the number `n`, or `None` exactly where `n` is above 63.
+    /// The square with the number `n`, or `None` if `n` is above 63.
     pub fn new(n: u8) -> Option<Square>
         ensures numbered { SomeIff result (n < 64) n }
     {

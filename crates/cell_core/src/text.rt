@@ -40,7 +40,7 @@ impl Text {
         Text { bytes }
     }
 
-    /// The text of these bytes, or the bytes themselves where one of them is zero.
+    /// The text of these bytes, or the bytes themselves if one of them is zero.
     pub fn try_new(bytes: Vec<u8>) -> Result<Text, Vec<u8>>
         ensures ok { IfOk result (λ text. text ≡ bytes.items) }
         ensures err { IfErr result (λ given. given ≡ bytes) }

@@ -25,5 +25,6 @@ pub mod Ways
 pub mod PawnMoves
 pub mod Sets
 pub mod Clear
+pub mod Reached
 pub mod Remaining
 pub mod Words

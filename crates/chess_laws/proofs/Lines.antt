@@ -1,7 +1,6 @@
 -- The line between two squares: the one queen's step by which a walk may lead from one to the other.
-use Rattle.chess_laws.proofs.Words.{◌≡◌, ◌↔◌, ℕ, zero, suc, ◌+◌, ◌*◌, ◌<◌, Bool, true, ◌&&◌, ◌||◌, not, Some, None, IsTrue, refl, subst, arith, Any, Decides-and, nat_tests, list_all, list_any, agree_below, agree_below_at, and_parts, Any-from_list_any, AllPass-from_list_all, Kind, King, Men, Offset, file_of, rank_of, Walk, Runs, line_of, glides, run, slides, offset_at, row_of, same_offset}
+use Rattle.chess_laws.proofs.Words.{◌≡◌, ◌↔◌, ℕ, zero, suc, ◌+◌, ◌*◌, ◌<◌, Bool, true, ◌&&◌, ◌||◌, not, Some, None, IsTrue, refl, subst, arith, Any, Decides-and, nat_tests, list_all, list_any, agree_below, agree_below_at, and_parts, Any-from_list_any, AllPass-from_list_all, Kind, King, Men, Offset, file_of, rank_of, Walk, Runs, line_of, glides, slides, offset_at, row_of, same_offset}
 use Rattle.chess_laws.specs.LegalTests.{line}
-use Rattle.chess_laws.proofs.Running.{run_is}
 use Rattle.chess_laws.proofs.Shifts.{shift-Some}
 use Rattle.chess_laws.proofs.Walks.{same-offset}
 
@@ -76,7 +75,3 @@ runs_row men kind row a b test some less both = (
       let same : slide.row ≡ row = cc in
       both.1 (rw same at slide.glides, rw same at slide.holds)),
 )
-
-pub runs_by : (men : Men) (o : Offset) (a b : ℕ) (first second : Bool) → second ≡ run men o 8 b a →
-    IsTrue (first && second) ↔ ((first ≡ true) × Runs men a b o)
-runs_by men o a b first second h = rw h (Decides-and _ _ (λ t. t, λ t. t) (run_is men o a b))

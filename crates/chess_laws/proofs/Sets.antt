@@ -1,5 +1,6 @@
 -- Bits of a word, and what the sets of squares say: of a board, and of a table of leaps.
-use Rattle.chess_laws.proofs.Words.{◌≡◌, ◌↔◌, ℕ, ◌-◌, ◌&&◌, ◌==◌, ltb, ◌/◌, ◌^◌, ◌<◌, inl, inr, Bool, true, false, cond, not, eqb, IsTrue, List, Option, Some, None, refl, sym, ◌∙◌, arith, min, w64, ◌+◌, ◌≤◌, ◌⊎◌, ◌*◌, ◌%◌, Any, bit_at, trailing_zeros, bit_and, bit_or, list_any, agree_below, agree_below_at, and_parts, cases_eq, cases_lt, eq-eqb, eqb-true, ltb-true, Decides-eqb, Decides-not, and_le_l, shr-shr, bit_at-lt, bit_at-trailing_zeros, bit_at-zero, bit_at_above, bit_at_and, bit_at_not, shr_and_one, bit_at_set_same, bit_at_set_other, bit_at_or, Colour, Kind, Man, Men, man_at, is_man, is_of, man, set_of, bit-set_of, LeapsFrom, Offset, Leaps, squares_of, leaps_now, HasNoOwn}
+use Rattle.chess_laws.proofs.Words.{◌≡◌, ◌↔◌, ℕ, suc, ◌-◌, ◌&&◌, ◌==◌, ltb, ◌/◌, ◌^◌, ◌<◌, inl, inr, Bool, true, false, cond, not, eqb, IsTrue, List, Option, Some, None, refl, sym, ◌∙◌, ap, arith, pow-suc, min, w64, ◌+◌, ◌≤◌, ◌⊎◌, ◌*◌, ◌%◌, Any, bit_at, trailing_zeros, bit_and, bit_or, list_any, agree_below, agree_below_at, and_parts, cases_eq, cases_lt, eq-eqb, eqb-true, ltb-true, Decides-eqb, Decides-not, and_le_l, shr-shr, bit_at-lt, bit_at-trailing_zeros, bit_at-zero, bit_at_above, bit_at_cat_high, bit_at_and, bit_at_not, shr_and_one, bit_at_set_same, bit_at_set_other, bit_at_or, Colour, Kind, Man, Men, man_at, is_man, is_of, man, set_of, bit-set_of, LeapsFrom, Offset, Leaps, squares_of, leaps_now, HasNoOwn}
+use Rattle.chess_laws.specs.RayTable.{before}
 use Rattle.chess_laws.specs.Leaps.{names_leaps}
 use Rattle.chess_laws.proofs.Kings.{is_man-Some, is_man-true}
 use Rattle.chess_laws.proofs.Deciding.{any-Decides, is_of-Decides, leaps-Decides}
@@ -51,8 +52,25 @@ lowest_set n some less = (bit_at-trailing_zeros w64 n (omega arith) less).1
 pub lowest_first : (n i : ℕ) → (n ≡ 0 → ⊥) → n < 18446744073709551616 → i < trailing_zeros w64 n → bit_at n i ≡ 0
 lowest_first n i some less = (bit_at-trailing_zeros w64 n (omega arith) less).2 i
 
+-- and the highest where its logarithm says
+pub highest : (n k : ℕ) → 2 ^ k ≤ n → n < 2 * 2 ^ k → bit_at n k ≡ 1
+highest n k low high =
+    let is : n ≡ 1 * 2 ^ k + (n - 2 ^ k) = omega arith in
+    let none : k - k ≡ 0 = omega arith in
+    ap (λ m. bit_at m k) is ∙ bit_at_cat_high 1 k (n - 2 ^ k) k (omega arith) (omega arith) ∙ rw none refl
+
+-- so of some squares the one to which steps come first
+pub lowest_before : (n s i : ℕ) (up : Bool) → up ≡ true → (n ≡ 0 → ⊥) → n < 18446744073709551616 → s ≡ trailing_zeros w64 n → bit_at n i ≡ 1 → before up i s ≡ true → ⊥
+lowest_before n s i up is some less at set first =
+    omega (arith, set, lowest_first n i some less (omega (arith, at, ltb-true i s (rw is at first))))
+
+pub highest_before : (n k s i : ℕ) (up : Bool) → up ≡ false → n < 2 * 2 ^ k → s ≡ k → bit_at n i ≡ 1 → before up i s ≡ true → ⊥
+highest_before n k s i up is less at set first =
+    let far : s < i = ltb-true s i (rw is at first) in
+    omega (arith, set, bit_at_above n (suc k) i (omega (arith, less, pow-suc 2 k)) (omega (arith, far, at)))
+
 -- a bit of a set tells of the test
-bit-told : (test : Option Man → Bool) → test None ≡ false → (men : Men) (s : ℕ) → (bit_at (set_of test men) s ≡ 1) ↔ (test (man_at men s) ≡ true)
+pub bit-told : (test : Option Man → Bool) → test None ≡ false → (men : Men) (s : ℕ) → (bit_at (set_of test men) s ≡ 1) ↔ (test (man_at men s) ≡ true)
 bit-told test none men s = rw (bit-set_of test none men s) (one-bit (test (man_at men s)))
   where
     one-bit : (x : Bool) → (◌≡◌ {A = ℕ} (cond x 1 0) 1) ↔ (x ≡ true)
@@ -103,11 +121,21 @@ both_bits n m s =
     let two = bit_at-lt m s in
     (λ h. (omega arith, omega arith), λ h. omega (arith, h.0, h.1))
 
+-- and those that one of them has
+pub either_bits : (n m s : ℕ) → (bit_at (bit_or n m) s ≡ 1) ↔ ((bit_at n s ≡ 1) ⊎ (bit_at m s ≡ 1))
+either_bits n m s =
+    let either = bit_at_or n m s in
+    let one = bit_at-lt n s in
+    let two = bit_at-lt m s in (
+      λ h. elim (cases_eq (bit_at n s) 1) [ inl here ↦ inl here | inr other ↦ inr (omega (arith, either, one, two, h, other)) ],
+      λ some. elim some [ inl h ↦ omega (arith, either, two, h) | inr h ↦ omega (arith, either, one, h) ],
+    )
+
 -- a word that is not 0 has a bit
 some-bit : (n : ℕ) → n < 18446744073709551616 → (n ≡ 0 → ⊥) → (s : ℕ) × (bit_at n s ≡ 1)
 some-bit n less some = let lowest = bit_at-trailing_zeros w64 n (omega arith) less in (_, lowest.1)
 
-no-bit : (n s : ℕ) → n ≡ 0 → bit_at n s ≡ 1 → ⊥
+pub no-bit : (n s : ℕ) → n ≡ 0 → bit_at n s ≡ 1 → ⊥
 no-bit n s none set = omega (arith, rw none at set, bit_at-zero s)
 
 pub empty_told : (n : ℕ) (test : Bool) → n < 18446744073709551616 → test ≡ eqb n 0 → IsTrue test ↔ ((s : ℕ) → bit_at n s ≡ 1 → ⊥)

@@ -1,5 +1,5 @@
 -- A step is two linear equations, of the files and of the ranks.
-use Rattle.chess_laws.proofs.Words.{◌≡◌, ℕ, ◌+◌, ◌<◌, Option, Some, None, refl, ap, arith, nat_tests, Offset, file_of, rank_of, square, line_at, option_and_then, option_map}
+use Rattle.chess_laws.proofs.Words.{◌≡◌, ℕ, ◌+◌, ◌<◌, ◌≤◌, Option, Some, None, refl, sym, ap, arith, nat_tests, White, Black, Offset, forward, file_of, rank_of, square, line_at, option_and_then, option_map}
 use Rattle.chess_laws.specs.Geometry.{shift}
 
 -- a step leads from a to b where the files and the ranks differ by it
@@ -37,3 +37,20 @@ shift-Differ o a b h =
     let file = line_at-on_board (file_of a) o.right o.left (file_of b) h.files (omega arith) in
     let rank = line_at-on_board (rank_of a) o.up o.down (rank_of b) h.ranks (omega arith) in
     rw (file, rank) (ap Some (omega arith))
+
+-- A pawn's way: eight squares up the board or down, as far as it goes
+none-such : (x : Option ℕ) → ((b : ℕ) → x ≡ Some b → ⊥) → None ≡ x
+none-such None none = refl
+none-such (Some b) none = absurd (none b refl)
+
+pub ahead_up : (a : ℕ) → a < 56 → Some (a + 8) ≡ shift (forward White) a
+ahead_up a less = sym (shift-Differ (forward White) a (a + 8) (record { files = omega arith; ranks = omega arith; on_board = omega arith }))
+
+pub ahead_down : (a b : ℕ) → a < 64 → b + 8 ≡ a → Some b ≡ shift (forward Black) a
+ahead_down a b less is = sym (shift-Differ (forward Black) a b (record { files = omega arith; ranks = omega arith; on_board = omega arith }))
+
+pub edge_up : (a : ℕ) → 56 ≤ a → None ≡ shift (forward White) a
+edge_up a far = none-such (shift (forward White) a) (λ b e. let d = shift-Some (forward White) a b e in omega arith)
+
+pub edge_down : (a : ℕ) → a < 8 → None ≡ shift (forward Black) a
+edge_down a near = none-such (shift (forward Black) a) (λ b e. let d = shift-Some (forward Black) a b e in omega arith)

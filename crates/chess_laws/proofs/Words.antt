@@ -11,17 +11,17 @@ pub use Rattle.cell_core.specs.declared.man.Kind.TheVariants.{King, Queen, Rook,
 pub use Rattle.cell_core.specs.declared.man.Man.{Man}
 pub use Rattle.cell_core.specs.declared.step.Move.{Move}
 pub use Rattle.chess_laws.specs.Attacks.{Attacks, AttacksAs, Reaches, IsInCheck}
-pub use Rattle.chess_laws.specs.Between.{crossed_on, is_between, is_seen}
+pub use Rattle.chess_laws.specs.RayTable.{is_seen}
 pub use Rattle.chess_laws.specs.Castling.{rook_home, rook_target, king_path, has_right, king_home, king_target, keeps, rights_after, StandAtHome}
 pub use Rattle.chess_laws.specs.Counts.{counts_of, count_of, fewer, is_home}
 pub use Rattle.chess_laws.specs.Geometry.{Offset, rook_steps, bishop_steps, knight_steps, king_steps, pawn_captures, Leaps, Runs, rank_of, shift, forward, Walk, file_of, square, line_at}
 pub use Rattle.chess_laws.specs.Keeps.{in_check}
 pub use Rattle.chess_laws.specs.Leaps.{squares_of}
 pub use Rattle.chess_laws.specs.LegalNow.{leaps_now, reaches_now, attacks_now, in_check_now, goes_plainly_now, case_now, legal_now}
-pub use Rattle.chess_laws.specs.LegalTests.{slides, IsOnlyKing, glides, line, run, run_on, takes_target, line_of, king_after, is_calm, is_home_square}
+pub use Rattle.chess_laws.specs.LegalTests.{slides, IsOnlyKing, glides, line, takes_target, line_of, king_after, is_calm, is_home_square}
 pub use Rattle.chess_laws.specs.Moves.{HasMoreMoves, IsMove, place_of, promotion_number, Ascends, ListsMoves}
 pub use Rattle.chess_laws.specs.Position.{Sound, HasKings, HasPawnsInside, HasFewMen, HasFitRights, HasFitEnPassant, king_square, en_passant_rank, start_men, start_setup, is_start, is_at_home, rights_of, has_bit}
-pub use Rattle.chess_laws.specs.Rays.{LeapsFrom, SlidesFrom, SlidesTo, entry, offset_at, sliders, row_of, same_offset, Shut, LeapsAs, Hits, Leaves, is_named, target_by}
+pub use Rattle.chess_laws.specs.Rays.{LeapsFrom, SlidesFrom, SlidesTo, entry, offset_at, sliders, row_of, same_offset, Shut, LeapsAs, Hits, Leaves}
 pub use Rattle.chess_laws.specs.Step.{Case, Legal, arriving, effect_of, board_after, moved, after, pawn_rank, passed_square, promotes_rightly, HasNoOwn, GoesPlainly, PassingCase, CastleCase, last_rank, rights_left, en_passant_after, effect_as, may_become, PlainCase, DoubleCase, changes_file, goes_two, Step}
 pub use Rattle.chess_laws.specs.Targets.{Known, ListsBelow, goes, Comes, IsKnown, Has, MayPromote, PawnComes, PawnGoes}
 pub use Rattle.chess_laws.specs.Ways.{is_row, way}
@@ -35,6 +35,7 @@ pub use Rattle.chess_laws.specs.declared.targets.SquareSet.{SquareSet}
 pub use Rattle.std.proofs.Common.{◌≡◌, ◌↔◌, ℕ, ◌<◌, true, refl, arith, List, ◌++◌, Any, ◌⊎◌, inl, inr, Some, ◌+◌, ◌≤◌, ◌≢◌, Bool, false, cond, Option, None, length, count_by, sym, ◌∙◌, ap, zero, suc, ◌^◌, IsTrue, ◌&&◌, ◌==◌, eqb, [], is_none, is_some, subst, ◌-◌, ◌∷◌, not, All, rules, pow_pos, ◌*◌, ◌/◌, ◌%◌, ltb, IsBitSet, w16, lit<, get_or, ◌||◌, length-append, slice_index_or, min, w64, leb}
 pub use Rattle.std.proofs.Math.Bool.{and-false}
 pub use Rattle.std.proofs.Math.ListN.{length-set}
+pub use Rattle.std.proofs.Math.Nat.{pow-suc}
 pub use Rattle.std.proofs.lemmas.Bool.{cases_lt, cases_eq, false_from_ne_true, agree_below, agree_below_at, and_parts, cases_Bool, eq-eqb, eqb-true, false≢true, ne_eqb, eqb-false, lt-ltb, le-ltb, leb-true, cases_order, ltb-true, le-leb, OnTrue_at, OnFalse_at}
 pub use Rattle.std.proofs.lemmas.Bool.Decides.{nat_tests, Decides-and, Decides-or, Decides-not, Decides-like, Decides-eqb, Decides-below_or, Decides-by_and, same_from_decides}
 pub use Rattle.std.proofs.lemmas.List.{get_or-set_same, get_or-set_other, get_or_past}
@@ -45,7 +46,7 @@ pub use Rattle.std.proofs.lemmas.List.Sums.{sum_by-set, count_by-le-length, sum_
 pub use Rattle.std.proofs.lemmas.Map.Keys.{IsDistinct-from_apart}
 pub use Rattle.std.proofs.lemmas.Map.Made.{length-le_from_is_member}
 pub use Rattle.std.proofs.lemmas.Nat.{shr-shr, and_assoc, and_comm, and_le_l}
-pub use Rattle.std.proofs.lemmas.Nat.Bits.{bit_at-lt, bit_at-pow_same, bit_at-pow_other, bit_at-zero, bit_at_and, bit_at_or, same_from_bits, and_pow, bit_at-suc, bit_at_lowest, bit_at_mask_below, bit_at_mask_inside, bit_at_ones, bit_at_ones_above, bit_at_set_same, bit_at_set_other, bit_at-trailing_zeros, bit_at_above, bit_at_not, shr_and_one}
+pub use Rattle.std.proofs.lemmas.Nat.Bits.{bit_at-lt, bit_at-pow_same, bit_at-pow_other, bit_at-zero, bit_at_and, bit_at_or, same_from_bits, and_pow, bit_at-suc, bit_at_lowest, bit_at_mask_below, bit_at_mask_inside, bit_at_ones, bit_at_ones_above, bit_at_set_same, bit_at_set_other, bit_at-trailing_zeros, bit_at_above, bit_at_cat_high, bit_at_not, shr_and_one}
 pub use Rattle.std.specs.Bool.{OnTrue, OnFalse, Decides}
 pub use Rattle.std.specs.Cmp.{IsEquivalence, nat_eq_equiv}
 pub use Rattle.std.specs.Int.{bit_at, reverse_bits, trailing_zeros}

@@ -7,8 +7,8 @@ use Rattle.cell_core.specs.Board.{Men, man_at}
 use Rattle.cell_core.specs.Man.{man, other}
 use Rattle.chess_laws.specs.Geometry.{rook_steps, bishop_steps, knight_steps, king_steps, pawn_captures, Leaps, Runs}
 
--- Such a man, standing on a, reaches b by its geometry over empty squares; a pawn, the two squares diagonally in front
--- of it (FIDE Laws, Article 3.2 bishop, 3.3 rook, 3.4 queen, 3.6 knight, 3.7.3 pawn, 3.8.1 king).
+-- Such a man, standing on a, reaches b by its geometry over empty squares. A pawn reaches the two squares diagonally in
+-- front of it (FIDE Laws, Article 3.2 bishop, 3.3 rook, 3.4 queen, 3.6 knight, 3.7.3 pawn, 3.8.1 king).
 abbrev pub Reaches : Men → Colour → Kind → ℕ → ℕ → Type 0
 Reaches men colour King a b = Any (Leaps a b) king_steps
 Reaches men colour Queen a b = Any (Runs men a b) (rook_steps ++ bishop_steps)

@@ -58,7 +58,7 @@ has_right r Black QueenSide = r.black_queen_side
 abbrev pub touches : Move → ℕ → Bool
 touches m s = (m.from == s) || (m.to == s)
 
--- A right is lost where its king's or its rook's home square is where the move begins or ends: the king or the rook has
+-- A right is lost if its king's or its rook's home square is where the move begins or ends: the king or the rook has
 -- moved, or the rook was captured (FIDE Laws, Article 3.8.2.1).
 abbrev pub keeps : Rights → Move → Colour → Wing → Bool
 keeps r m c w = has_right r c w && (not (touches m (king_home c)) && not (touches m (rook_home c w)))

@@ -34,7 +34,7 @@ pub record AreWords (white black : ℕ) : Type 0 where
 pub five_back : (word : ℕ) → word < 2 ^ 40 → five_of (byte_in word 0) (byte_in word 8) (byte_in word 16) (byte_in word 24) (byte_in word 32) ≡ word
 five_back word less = omega (arith, shr-shr word 8 8, shr-shr word 16 8, shr-shr word 24 8)
 
--- One less in the byte from this bit on, where that is not 0, and in the byte of a kind.
+-- One less in the byte from this bit on, unless that byte is 0, and in the byte of a kind.
 abbrev pub less_at : ℕ → ℕ → ℕ
 less_at word shift = if byte_in word shift == 0 then word else word - 2 ^ shift
 

@@ -1,4 +1,4 @@
--- How many men of each kind there are, and which pawns stand at home.
+-- How many men of each kind there are, and which pawns stand at home (this project's own).
 use Rattle.std.specs.Prelude.{ℕ, ◌+◌, ◌-◌, nat_lt, if◌then◌else◌, Bool, List, [], ◌∷◌, count_by, map, Option, Some, None, slice_index_or, slice_set}
 use Rattle.std.specs.List.{flat_map}
 use Rattle.cell_core.specs.declared.man.Colour.{Colour}

@@ -1,4 +1,4 @@
--- How men move over the board: files, ranks and steps.
+-- How men move over the board: files, ranks and steps (FIDE Laws, Article 2.4 and 3.2 to 3.8).
 use Rattle.std.specs.Prelude.{◌≡◌, ℕ, zero, suc, ◌+◌, ◌-◌, ◌*◌, ◌/◌, ◌%◌, ◌&&◌, nat_lt, nat_le, if◌then◌else◌, List, [], ◌∷◌, ◌++◌, Option, Some, None}
 use Rattle.std.specs.Option.{option_and_then, option_map}
 use Rattle.cell_core.specs.declared.man.Colour.{Colour}
@@ -26,11 +26,11 @@ pub record Offset : Type 0 where
 abbrev pub by : ℕ → ℕ → ℕ → ℕ → Offset
 by r l u d = record { right = r; left = l; up = u; down = d }
 
--- A file or a rank that much higher and lower, where it stays from 0 to 7.
+-- A file or a rank that much higher and lower, if it stays from 0 to 7.
 abbrev pub line_at : ℕ → ℕ → ℕ → Option ℕ
 line_at line up down = if nat_le down (line + up) && nat_lt (line + up) (8 + down) then Some (line + up - down) else None
 
--- The square that a step leads to, where it stays on the board.
+-- The square that a step leads to, if it stays on the board.
 unfoldable pub shift : Offset → ℕ → Option ℕ
 shift o s =
     option_and_then (λ file. option_map (square file) (line_at (rank_of s) o.up o.down)) (line_at (file_of s) o.right o.left)

@@ -1,4 +1,5 @@
--- The Laws as tests that compute: each is the test of what is said in Geometry, Attacks and Step, case by case, and decides it.
+-- The Laws as tests that compute (FIDE Laws, Article 3). Each is the test of what Geometry, Attacks or Step says, case by
+-- case, and decides it.
 use Rattle.std.specs.Prelude.{ℕ, zero, suc, ◌&&◌, ◌||◌, not, ◌==◌, ◌++◌, Bool, false, Some, is_none, nat_eq}
 use Rattle.std.specs.List.{list_all, list_any}
 use Rattle.std.specs.Option.{option_eq, option_map_or}

@@ -23,15 +23,6 @@ pub record IsOnlyKing (men : Men) (colour : Colour) (s : ℕ) : Type 0 where
 abbrev pub king_after : ℕ → Move → ℕ
 king_after king m = if m.from == king then m.to else king
 
--- Whether at most so many equal steps from a come to b over empty squares.
-abbrev pub run_on : Men → ℕ → Option ℕ → (ℕ → Bool) → Bool
-run_on men b None further = false
-run_on men b (Some c) further = (c == b) || (is_none (man_at men c) && further c)
-
-unfoldable pub run : Men → Offset → ℕ → ℕ → ℕ → Bool
-run men o zero b a = false
-run men o (suc n) b a = run_on men b (shift o a) (run men o n b)
-
 -- No man of this colour attacks one of the three squares.
 pub record AreSafe (men : Men) (colour : Colour) (a b c : ℕ) : Type 0 where
   pub first : Attacks men colour a → ⊥

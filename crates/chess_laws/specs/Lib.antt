@@ -7,7 +7,7 @@ pub mod Counts
 pub mod CountWords
 pub mod Rays
 pub mod LegalTests
-pub mod Between
+pub mod RayTable
 pub mod Moves
 pub mod Targets
 pub mod Leaps

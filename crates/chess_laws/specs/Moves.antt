@@ -1,4 +1,5 @@
--- The legal moves of a position, in order, and the moves that are legal on a board.
+-- The legal moves of a position (FIDE Laws, Article 3.10.1), in an order that is this project's own, and the moves that
+-- are legal on a board.
 use Rattle.std.specs.Prelude.{◌≡◌, ℕ, ◌+◌, ◌*◌, ◌<◌, List, Option, Some, None, length, All, AllPairs, Contains}
 use Rattle.cell_core.specs.declared.man.Kind.{Kind}
 use Rattle.cell_core.specs.declared.step.Move.{Move}

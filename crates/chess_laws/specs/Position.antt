@@ -1,4 +1,5 @@
--- What a position is, and the rules that every position keeps.
+-- What a position is, and the rules that every position keeps (FIDE Laws, Article 2.2, 2.3, 3.7.3.3
+-- and 3.9.2; the others are this project's own).
 use Rattle.std.specs.Prelude.{◌≡◌, ℕ, ◌+◌, ◌/◌, ◌%◌, ◌^◌, ◌<◌, ◌≤◌, ◌==◌, ◌&&◌, ◌++◌, Bool, if◌then◌else◌, IsTrue, [], ◌∷◌, Option, Some, None, is_none, length, replicate, count_by, map}
 use Rattle.std.specs.List.{position_or_len}
 use Rattle.cell_core.specs.declared.man.Colour.{Colour}
@@ -42,7 +43,7 @@ abbrev pub HasFitEnPassant : Colour → Option ℕ → Type 0
 HasFitEnPassant c None = Unit {0}
 HasFitEnPassant c (Some s) = rank_of s ≡ en_passant_rank c
 
--- A right is left only where king and rook stand at home.
+-- A right is left only if its king and rook stand at home.
 abbrev pub HasFitRights : Setup → Type 0
 HasFitRights p = (c : Colour) (w : Wing) → IsTrue (has_right p.rights c w) → StandAtHome p.board c w
 

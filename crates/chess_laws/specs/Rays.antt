@@ -1,9 +1,7 @@
 -- What the code looks for, from the square that is attacked to the attacker. No public contract cites these words.
-use Rattle.std.specs.Prelude.{◌≡◌, ℕ, ◌<◌, ◌⊎◌, Any, Bool, ◌&&◌, ◌==◌, nat_le, List, [], ◌++◌, slice_index_or, Option, Some, None, is_some}
+use Rattle.std.specs.Prelude.{◌≡◌, ℕ, ◌<◌, ◌⊎◌, Any, Bool, ◌&&◌, ◌==◌, List, [], slice_index_or, Some, None, is_some}
 use Rattle.std.specs.Int.RustNames.{bit_and, bit_or}
 use Rattle.std.specs.List.{position_or_len}
-use Rattle.std.proofs.Common.{true, eqb, refl}
-use Rattle.std.proofs.lemmas.Bool.{agree_below, agree_below_at, eqb-true}
 use Rattle.cell_core.specs.declared.man.Colour.{Colour}
 use Rattle.cell_core.specs.declared.man.Kind.{Kind}
 use Rattle.cell_core.specs.declared.man.Kind.TheVariants.{King, Queen, Rook, Bishop, Knight, Pawn}
@@ -13,25 +11,18 @@ use Rattle.cell_core.specs.Man.{is_man, man, other}
 use Rattle.cell_core.specs.Sets.{is_kind, set_of}
 use Rattle.chess_laws.specs.declared.setup.Setup.{Setup}
 use Rattle.chess_laws.specs.Attacks.{IsInCheck}
-use Rattle.chess_laws.specs.Geometry.{Offset, bishop_steps, by, king_steps, knight_steps, pawn_captures, rook_steps, shift, Leaps, Runs}
+use Rattle.chess_laws.specs.Geometry.{Offset, bishop_steps, by, king_steps, knight_steps, pawn_captures, rook_steps, Leaps, Runs}
 
 -- The steps that the code has, by their rows in its tables.
-abbrev pub offsets : List Offset
-offsets = king_steps ++ knight_steps
-
 abbrev pub offset_at : ℕ → Offset
-offset_at row = slice_index_or offsets row (by 0 0 0 0)
+offset_at row = slice_index_or king_steps row (by 0 0 0 0)
 
 -- The row of a step.
 abbrev pub same_offset : Offset → Offset → Bool
 same_offset a b = ((a.right == b.right) && (a.left == b.left)) && ((a.up == b.up) && (a.down == b.down))
 
 abbrev pub row_of : Offset → ℕ
-row_of o = position_or_len (same_offset o) offsets
-
--- So a step tells its row.
-pub row_back : (row : ℕ) → row < 16 → row_of (offset_at row) ≡ row
-row_back row less = eqb-true (row_of (offset_at row)) row (agree_below_at (λ n. eqb (row_of (offset_at n)) n) (λ n. true) 16 row refl less)
+row_of o = position_or_len (same_offset o) king_steps
 
 -- The squares of the men of a colour that slide as this kind of man does: a queen does too.
 abbrev pub sliders : Men → Colour → Kind → ℕ
@@ -53,22 +44,9 @@ pub record SlidesFrom (men : Men) (c : Colour) (k : Kind) (s : ℕ) (o : Offset)
   pub target : s < 64
   pub runs : Runs men s from o
 
--- Where the step of a row leads.
-abbrev pub target_by : ℕ → ℕ → Option ℕ
-target_by row s = shift (offset_at row) s
-
 -- What a table says of a row and a square.
 abbrev pub entry : List (List ℕ) → ℕ → ℕ → ℕ
 entry table row s = slice_index_or (slice_index_or table row []) s 0
-
--- Whether a number is that of the square, or off the board where there is none.
-abbrev pub is_named : Option ℕ → ℕ → Bool
-is_named None t = nat_le 64 t
-is_named (Some a) t = t == a
-
--- Whether a table says so of each row and square.
-unfoldable pub names_all : List (List ℕ) → Bool
-names_all table = agree_below (λ row. agree_below (λ s. is_named (target_by row s) (entry table row s)) (λ s. true) 64) (λ row. true) 16
 
 -- A rook, a bishop or a queen of this colour slides to s.
 abbrev pub SlidesTo : Men → Colour → ℕ → Type 0

@@ -38,8 +38,12 @@ goes_two Black m = rank_of m.from == rank_of m.to + 2
 abbrev pub changes_file : Move → Bool
 changes_file m = not (file_of m.to == file_of m.from)
 
--- What kind of move it is, by the man that stands on its first square: a pawn's double step, a pawn's capture en passant
--- (diagonally to an empty square), castling (from the king's home square to its target), the null move, or a plain one.
+-- What kind of move it is, by the man that stands on its first square: a plain one, unless it is
+--
+-- - a pawn's double step,
+-- - a pawn's capture en passant, diagonally to an empty square,
+-- - castling, from the king's home square to its target,
+-- - the null move, on which the king stays.
 abbrev pub effect_as : Kind → Setup → Move → Effect
 effect_as King p m =
     if m.to == m.from then Null
@@ -59,8 +63,8 @@ effect_of p m = option_map_or (λ standing. effect_as standing.kind p m) (man_at
 abbrev pub HasNoOwn : Men → Colour → ℕ → Type 0
 HasNoOwn men c s = (k : Kind) → man_at men s ≡ Some (man c k) → ⊥
 
--- A plain move of a man of this kind: a pawn goes one square forward to an empty square, or captures an enemy man
--- diagonally in front of it (FIDE Laws, Article 3.7.1 and 3.7.3); any other man goes where it reaches, and the target
+-- A plain move of a man of this kind. A pawn goes one square forward to an empty square, or captures an enemy man
+-- diagonally in front of it (FIDE Laws, Article 3.7.1 and 3.7.3). Any other man goes where it reaches, and the target
 -- holds no man of its own side (FIDE Laws, Article 3.1 to 3.6 and 3.8.1).
 abbrev pub GoesPlainly : Setup → Kind → Move → Type 0
 GoesPlainly p Pawn m =
@@ -112,7 +116,7 @@ pub record CastleCase (p : Setup) (m : Move) (wing : Wing) : Type 0 where
   pub safe : All (λ s. Attacks p.board (other p.side) s → ⊥) (king_path p.side wing)
   pub promo : m.promo ≡ None
 
--- The null move: the mover passes, which it may where it is not in check (this project's own).
+-- The null move: the mover passes, which is allowed if it is not in check (this project's own).
 pub record NullCase (p : Setup) (m : Move) : Type 0 where
   pub stands : man_at p.board m.from ≡ Some (man p.side King)
   pub stays : m.to ≡ m.from

@@ -12,7 +12,7 @@ spread s = s + 8 * (s / 8)
 abbrev pub way : List ℕ → ℕ → ℕ → ℕ
 way table a b = slice_index_or table (119 - spread a + spread b) 0
 
--- Whether a number is the row of a queen's step, or none of them where there is no such step.
+-- Whether a number is the row of a queen's step, or is no row if there is no such step.
 abbrev pub is_row : Option ℕ → ℕ → Bool
 is_row None n = nat_le 8 n
 is_row (Some row) n = n == row

@@ -1,7 +1,7 @@
 //! Which squares a side attacks.
 ghost use Rattle.std.specs.Prelude.{◌<◌, ℕ, Some, true, ◌≡◌, ◌↔◌, IsTrue, Any, List, is_some};
 ghost use Rattle.chess_laws.specs.Attacks.{Attacks};
-ghost use Rattle.chess_laws.specs.Between.{names_seen};
+ghost use Rattle.chess_laws.specs.RayTable.{names_seen};
 ghost use Rattle.chess_laws.specs.LegalTests.{slides};
 ghost use Rattle.chess_laws.specs.Geometry.{bishop_steps, rook_steps, Leaps, Offset as Steps, Runs};
 ghost use Rattle.chess_laws.specs.Rays.{sliders, Leaves, LeapsFrom, SlidesFrom, SlidesTo};
@@ -12,9 +12,9 @@ ghost use Rattle.cell_core.specs.Sets.{set_of};
 ghost use Rattle.cell_core.specs.declared.man.Colour.{Colour as TheColour};
 ghost use Rattle.cell_core.specs.declared.man.Kind.{Kind as TheKind};
 
-use super::between::runs;
 use super::leaps::{capture_squares, king_squares, knight_squares};
 use super::left::Left;
+use super::sliding::run_squares;
 use super::targets::SquareSet;
 use cell_core::{Board, Colour, Kind, Man, Square};
 
@@ -25,7 +25,7 @@ pub fn attacks(board: &Board, by: Colour, s: Square) -> bool
     attacks_left(board, Left::of(board, by), by, s)
 }
 
-/// Whether some man of the colour `by` attacks the square `s`, where these of its men are left of the board.
+/// Whether some man of the colour `by` attacks the square `s`, if these of its men are left of the board.
 pub fn attacks_left(board: &Board, left: Left, by: Colour, s: Square) -> bool
     ensures { (new : Men) → Leaves board.now by left.men left.occupied new → IsTrue result ↔ Attacks new by s }
 {
@@ -44,9 +44,9 @@ pub fn attacks_left(board: &Board, left: Left, by: Colour, s: Square) -> bool
     leaps(king_squares(s), left.of_kind(board, Kind::King))
 }
 
-/// Whether some man of the colour `by` that slides attacks the square `s`, where these of its men are left of the board.
+/// Whether some man of the colour `by` that slides attacks the square `s`, if these of its men are left of the board.
 #[inline(always)]
-#[tactic(auto, unfolding(crate::specs::LegalTests::line, crate::specs::Between::names_seen))]
+#[tactic(auto, unfolding(crate::specs::LegalTests::line, crate::specs::RayTable::names_seen))]
 pub fn slides_left(board: &Board, left: Left, by: Colour, s: Square) -> bool
     ensures { (new : Men) → Leaves board.now by left.men left.occupied new → IsTrue result ↔ SlidesTo new by s }
 {
@@ -69,7 +69,7 @@ fn leaps(squares: SquareSet, men: u64) -> bool
 
 /// Whether a file, a rank or a diagonal has both squares.
 #[inline(always)]
-#[tactic(auto, unfolding(crate::specs::LegalTests::line, crate::specs::Between::names_seen))]
+#[tactic(auto, unfolding(crate::specs::LegalTests::line, crate::specs::RayTable::names_seen))]
 pub fn are_on_line(s: Square, t: Square) -> bool
     ensures rooks { (men : Men) → Any (Runs men s t) rook_steps → IsTrue result }
     ensures bishops { (men : Men) → Any (Runs men s t) bishop_steps → IsTrue result }
@@ -94,7 +94,7 @@ pub(crate) fn stands(board: &Board, from: Square, colour: Colour, kind: Kind) ->
     board.at(from) == Some(Man { colour, kind })
 }
 
-/// Whether one of these men, who slide as this kind of man does, slides to `s`, where men stand on these squares. A table has the
+/// Whether one of these men, who slide as this kind of man does, slides to `s`, if men stand on these squares. A table has the
 /// squares on the lines through each square.
 #[inline(always)]
 fn slides(men: u64, occupied: u64, kind: Kind, lines: &[u64; 64], s: Square) -> bool
@@ -106,7 +106,7 @@ fn slides(men: u64, occupied: u64, kind: Kind, lines: &[u64; 64], s: Square) -> 
     come(there, occupied, kind, s)
 }
 
-/// Whether equal steps of this kind of man lead from `s` to one of the squares, where men stand on these.
+/// Whether equal steps of this kind of man lead from `s` to one of the squares, if men stand on these.
 #[inline(always)]
 fn come(squares: SquareSet, occupied: u64, kind: Kind, s: Square) -> bool
     ensures { (new : Men) → occupied ≡ set_of is_some new → IsTrue result ↔ ((a : ℕ) × (Has squares a × Any (Runs new s a) (slides kind))) }
@@ -117,19 +117,16 @@ fn come(squares: SquareSet, occupied: u64, kind: Kind, s: Square) -> bool
     come_along(squares, occupied, kind, s)
 }
 
-// The same, where there are some.
+// The same for squares of which there is at least one.
 #[inline(never)]
 fn come_along(squares: SquareSet, occupied: u64, kind: Kind, s: Square) -> bool
     ensures { (new : Men) → occupied ≡ set_of is_some new → IsTrue result ↔ ((a : ℕ) × (Has squares a × Any (Runs new s a) (slides kind))) }
 {
-    let mut at = 0u8;
-    while let Some(a) = squares.next(at) {
-        if runs(occupied, kind, s, a) {
-            return true;
-        }
-        at = a.index() + 1;
+    match kind {
+        Kind::Rook => squares.meets(run_squares(occupied, Kind::Rook, s)),
+        Kind::Bishop => squares.meets(run_squares(occupied, Kind::Bishop, s)),
+        _ => squares.meets(run_squares(occupied, kind, s)),
     }
-    false
 }
 
 // The files and ranks through each square.

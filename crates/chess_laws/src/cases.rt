@@ -2,19 +2,18 @@
 ghost use Rattle.std.specs.Prelude.{◌≡◌, ◌↔◌, true, IsTrue, Any, Some, None};
 ghost use Rattle.cell_core.specs.Board.{man_at};
 ghost use Rattle.cell_core.specs.Man.{man, other};
-ghost use Rattle.chess_laws.specs.Geometry.{forward, pawn_captures, rank_of, Leaps, Runs, Walk};
+ghost use Rattle.chess_laws.specs.Geometry.{forward, pawn_captures, rank_of, shift, Leaps, Runs, Walk};
 ghost use Rattle.chess_laws.specs.Attacks.{Reaches, IsInCheck};
 ghost use Rattle.chess_laws.specs.LegalTests.{IsOnlyKing, MayCastle, is_calm, slides, IsEnemyOn};
 ghost use Rattle.chess_laws.specs.Step.{Case, CastleCase, DoubleCase, GoesPlainly, HasNoOwn, NullCase, PassingCase, PlainCase, last_rank, may_become, pawn_rank, promotes_rightly};
 
 use super::attack::{attacks, stands};
-use super::between::runs;
 use super::castling::{has_right, is_path_safe, is_way_free};
 use super::effect::Effect;
 use super::leaps::{is_capture_step, is_king_step, is_knight_step};
 use super::next::passed_square;
-use super::offset::{DOWN, Offset, UP};
 use super::setup::{Setup, Wing};
+use super::sliding::runs;
 use cell_core::{Board, Colour, Kind, Man, Move, Square};
 
 /// Whether the rules of its kind allow the move.
@@ -83,7 +82,7 @@ fn goes_plainly(p: &Setup, kind: Kind, m: &Move) -> bool
 fn steps_on(p: &Setup, m: &Move) -> bool
     ensures { IsTrue result ↔ (Leaps m.now.from m.now.to (forward p.now.side)) × (man_at p.now.board m.now.to ≡ None) }
 {
-    forward(p.side).target(m.from) == Some(m.to) && p.board.at(m.to).is_none()
+    ahead(p.side, m.from) == Some(m.to) && p.board.at(m.to).is_none()
 }
 
 /// Whether a pawn captures an enemy man diagonally in front of it.
@@ -116,7 +115,8 @@ pub fn has_no_own(board: &Board, colour: Colour, s: Square) -> bool
     }
 }
 
-/// Whether a move names a promotion exactly where a pawn comes to the last rank.
+/// Whether a pawn that comes to the last rank is promoted to a queen, rook, bishop or knight, and no other move names a
+/// promotion.
 #[inline(always)]
 fn promotes_rightly(side: Colour, kind: Kind, m: &Move) -> bool
     ensures { result ≡ promotes_rightly side kind m.now }
@@ -175,11 +175,10 @@ pub fn is_on_own_rank(side: Colour, s: Square) -> bool
 fn walks_two(board: &Board, side: Colour, from: Square, to: Square) -> bool
     ensures { IsTrue result ↔ Walk board.now (forward side) 1 from to }
 {
-    let step = forward(side);
-    let Some(crossed) = step.target(from) else {
+    let Some(crossed) = ahead(side, from) else {
         return false;
     };
-    board.at(crossed).is_none() && step.target(crossed) == Some(to)
+    board.at(crossed).is_none() && ahead(side, crossed) == Some(to)
 }
 
 /// Whether it is a pawn's capture en passant.
@@ -215,7 +214,7 @@ fn may_castle(p: &Setup, m: &Move, wing: Wing) -> bool
         && is_way_free(&p.board, p.side, wing)
 }
 
-/// Whether it is the null move, where the mover may pass.
+/// Whether it is the null move, and the mover may pass.
 fn is_null(p: &Setup, king: Square, m: &Move) -> bool
     requires king { IsOnlyKing p.now.board p.now.side king }
     ensures { IsTrue result ↔ NullCase p.now m.now }
@@ -234,13 +233,17 @@ pub fn is_in_check(board: &Board, colour: Colour, king: Square) -> bool
     attacks(board, colour.other(), king)
 }
 
-/// A pawn's way.
-pub fn forward(colour: Colour) -> Offset
-    ensures { result ≡ forward colour }
+/// The square in front of a pawn of this colour, if there is one.
+#[inline(always)]
+#[tactic(auto, using(crate::proofs::Shifts::ahead_up, crate::proofs::Shifts::ahead_down, crate::proofs::Shifts::edge_up, crate::proofs::Shifts::edge_down))]
+pub fn ahead(colour: Colour, s: Square) -> Option<Square>
+    ensures { result ≡ shift (forward colour) s }
 {
+    let number = s.index();
     match colour {
-        Colour::White => UP,
-        Colour::Black => DOWN,
+        Colour::White if number < 56 => Some(Square::at(number + 8)),
+        Colour::Black if number >= 8 => Some(Square::at(number - 8)),
+        Colour::White | Colour::Black => None,
     }
 }
 

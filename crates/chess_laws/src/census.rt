@@ -8,7 +8,7 @@ ghost use Rattle.chess_laws.specs.Position.{king_square};
 
 use cell_core::{Board, Colour, Kind, Man, Square};
 
-/// The square of the king of this colour, where there is just one.
+/// The square of the king of this colour, if there is just one.
 #[tactic(auto, using(crate::proofs::Kings::first_none))]
 pub fn only_king(board: &Board, colour: Colour) -> Option<Square>
     ensures { MatchOption result (count_of board.now colour King ≢ 1) (λ s. (count_of board.now colour King ≡ 1) × (s ≡ king_square board.now colour)) }

@@ -8,8 +8,8 @@ use super::census::number;
 use cell_core::{Board, Colour, Kind, Man};
 use std::marker::Model;
 
-/// How many queens, rooks, bishops, knights and pawns White has, and then Black: a byte for each in a word for each side, so
-/// that two words tell whether counts are the same. Contracts see the list of the ten.
+/// How many queens, rooks, bishops, knights and pawns White has, and then Black. A word for each side has a byte for
+/// each kind, so that two words tell whether counts are the same. Contracts see the list of the ten.
 #[derive(Clone, Copy, Debug, PartialEq, Eq)]
 pub struct Counts {
     white: u64,
@@ -80,7 +80,7 @@ impl Counts {
         ]
     }
 
-    /// One less of the man on a square, where one stands there that is counted.
+    /// One less of the man on a square, if one stands there that is counted.
     #[inline(always)]
     pub(crate) fn count_out(&mut self, cell: &Option<Man>)
         ensures fewer { self.new ≡ fewer self.old cell.now }
@@ -121,7 +121,7 @@ fn byte(word: u64, shift: u32) -> u8
     ((word >> shift) % 256) as u8
 }
 
-// The word with one man of this kind less, where it has one; kings are not counted.
+// The word with one man of this kind less, if it has one; kings are not counted.
 #[inline(always)]
 fn one_less(word: u64, kind: Kind) -> u64
     ensures { result ≡ less_of word kind }
@@ -136,7 +136,7 @@ fn one_less(word: u64, kind: Kind) -> u64
     }
 }
 
-// The word with one less in the byte from this bit on, where that is not 0.
+// The word with one less in the byte from this bit on, unless that byte is 0.
 #[inline(always)]
 fn less_at(word: u64, shift: u32) -> u64
     requires { shift < 64 }

@@ -94,7 +94,7 @@ impl Left {
         self.occupied
     }
 
-    /// The squares of the men of this kind, where these are left of the board.
+    /// The squares of the men of this kind, if these are left of the board.
     #[inline(always)]
     pub fn of_kind(&self, board: &Board, kind: Kind) -> u64
         ensures { (new : Men) (c : TheColour) → Leaves board.now c self.now.men self.now.occupied new → result ≡ set_of (is_man c kind) new }

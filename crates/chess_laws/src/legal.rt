@@ -124,7 +124,7 @@ fn is_safe_after(p: &Setup, king: Square, m: &Move, effect: Effect) -> bool
     !attacks_left(&p.board, left, p.side.other(), king_after(king, m))
 }
 
-/// Where the king stands after the move: on its target, where the king is what moves.
+/// Where the king stands after the move: on its target, if the king is what moves.
 pub fn king_after(king: Square, m: &Move) -> Square
     ensures { result ≡ king_after king m.now }
 {
@@ -150,7 +150,7 @@ pub fn is_calm(effect: Effect) -> bool
     }
 }
 
-// Whether an enemy may slide to the king over this square, where nothing stands on it.
+// Whether an enemy may slide to the king over this square, if nothing stands on it.
 #[inline(always)]
 fn uncovers(p: &Setup, king: Square, from: Square) -> bool
     requires squares { length p.now.board ≡ 64 }
@@ -159,7 +159,7 @@ fn uncovers(p: &Setup, king: Square, from: Square) -> bool
     are_on_line(king, from) && slides_without(p, king, from)
 }
 
-// Whether an enemy slides to the king where nothing stands on this square.
+// Whether an enemy slides to the king if nothing stands on this square.
 #[inline(always)]
 fn slides_without(p: &Setup, king: Square, from: Square) -> bool
     requires squares { length p.now.board ≡ 64 }

@@ -3,7 +3,6 @@
 #![tactic(auto)]
 
 mod attack;
-mod between;
 mod cases;
 mod castling;
 mod census;
@@ -16,11 +15,12 @@ mod legal;
 mod making;
 mod moves;
 mod next;
-mod offset;
 mod position;
 mod rules;
 mod setup;
+mod sliding;
 mod targets;
+mod towards;
 
 pub use castling::{king_target, rook_home, rook_target};
 pub use counts::Counts;

@@ -22,8 +22,8 @@ use arrayvec::ArrayVec;
 use cell_core::{Kind, Move, Square};
 
 impl Position {
-    /// Lists every legal move but the null move in `into`, in the order of moves. Where there are more than 256, it
-    /// answers false and leaves `into` empty.
+    /// Lists every legal move but the null move in `into`, in the order of moves. It answers false and leaves `into`
+    /// empty if there are more than 256.
     pub fn legal_moves(&self, into: &mut ArrayVec<Move, 256>) -> bool
         ensures listed { OnTrue result (ListsMoves self.now into.new.items) }
         ensures emptied { OnFalse result (into.new.items ≡ []) }
@@ -263,7 +263,7 @@ fn may_promote(p: &Setup, from: Square, to: Square) -> bool
     to.index() / 8 == last_rank(p.side) && stands(&p.board, from, p.side, Kind::Pawn)
 }
 
-/// Adds the move if it is a legal one besides the null move, or answers false where there is no room for it.
+/// Adds the move if it is a legal one besides the null move. It answers false if `into` has no room for it.
 fn add<const N: usize>(
     p: &Setup,
     king: Square,
@@ -288,7 +288,7 @@ fn add<const N: usize>(
     push(m, into)
 }
 
-/// Adds the move where there is room for it, and answers whether there is.
+/// Adds the move if `into` has room for it, and answers whether it has.
 fn push<const N: usize>(m: Move, into: &mut ArrayVec<Move, N>) -> bool
     ensures added { OnTrue result (into.new.items ≡ into.old.items ++ m ∷ []) }
     ensures room { OnTrue result (length into.old.items < N) }

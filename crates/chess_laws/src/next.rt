@@ -166,7 +166,7 @@ pub fn change_calm(p: &mut Setup, m: &Move, effect: Effect, standing: Man) -> Ma
     arriving
 }
 
-// The man that arrives: this one, or what he is promoted to.
+// The man that arrives: this one, or what it is promoted to.
 #[inline(always)]
 fn arriving(side: Colour, standing: Man, promo: Option<Kind>) -> Man
     ensures { (p : Setup) (m : Move) → p.side ≡ side → m.promo ≡ promo → man_at p.board m.from ≡ Some standing → Some result ≡ arriving p m promo }

@@ -23,9 +23,13 @@ use super::setup::{Rights, Setup};
 use cell_core::{Board, Colour, Kind, Man, Move, Square};
 use std::marker::Model;
 
-/// A position that keeps the rules: one king a side, no pawn on the first or last rank, at most 16 men a side, the side
-/// that is not to move not in check, a right only where king and rook stand at home, and an en passant square only on
-/// the sixth rank with White to move or on the third with Black to move.
+/// A position that keeps the rules:
+///
+/// - Each side has one king and at most 16 men.
+/// - No pawn stands on the first or the last rank.
+/// - The side that is not to move is not in check.
+/// - A castling right is left only if its king and rook stand at home.
+/// - An en passant square is on the sixth rank with White to move, and on the third with Black to move.
 #[derive(Clone, Copy, Debug, PartialEq, Eq)]
 pub struct Position {
     inner: Setup,
@@ -379,8 +383,18 @@ impl Position {
         ensures only { (q : Setup) → Step self.old m q → q ≡ self.new }
     {
         let effect = effect_of(self.setup(), &m);
+        self.play_as(&m, effect);
+    }
+
+    /// `play` of a move whose kind of half-move is known.
+    pub fn play_as(&mut self, m: &Move, effect: Effect)
+        requires legal { Legal self.old m.now }
+        requires effect { effect ≡ effect_of self.old m.now }
+        ensures step { Step self.old m.now self.new }
+        ensures only { (q : Setup) → Step self.old m.now q → q ≡ self.new }
+    {
         let standing = self.inner.board.at(m.from);
-        self.follow(&m, effect, standing);
+        self.follow(m, effect, standing);
     }
 
     // Plays a legal move of this kind, of what stands on its first square.

@@ -4,15 +4,15 @@ ghost use Rattle.std.specs.Int.{bit_at};
 ghost use Rattle.cell_core.specs.Board.{man_at};
 ghost use Rattle.chess_laws.specs.Castling.{king_target};
 ghost use Rattle.chess_laws.specs.Geometry.{Leaps, Runs, forward, king_steps, knight_steps, pawn_captures};
-ghost use Rattle.chess_laws.specs.LegalTests.{run};
+ghost use Rattle.chess_laws.specs.LegalTests.{slides};
 ghost use Rattle.chess_laws.specs.Targets.{CastlesTo, Comes, DoublesTo, Has, MayTake, goes};
 ghost use Rattle.chess_laws.specs.Step.{CastleCase, HasNoOwn};
 
-use super::cases::{forward, has_no_own, is_castling, is_on_own_rank};
+use super::cases::{ahead, is_castling, is_on_own_rank};
 use super::castling::{king_home, king_target};
 use super::leaps::{capture_squares, king_squares, knight_squares};
-use super::offset::{BISHOP_STEPS, KING_STEPS, Offset, ROOK_STEPS};
 use super::setup::{Setup, Wing};
+use super::sliding::run_squares;
 use cell_core::{Kind, Move, Square};
 
 /// A set of squares.
@@ -139,9 +139,9 @@ pub fn targets(p: &Setup, kind: Kind, from: Square) -> SquareSet
 {
     match kind {
         Kind::King => castling_targets(p, from, king_targets(p, from)),
-        Kind::Queen => run_targets(p, &KING_STEPS, from),
-        Kind::Rook => run_targets(p, &ROOK_STEPS, from),
-        Kind::Bishop => run_targets(p, &BISHOP_STEPS, from),
+        Kind::Queen => slide_targets(p, Kind::Queen, from),
+        Kind::Rook => slide_targets(p, Kind::Rook, from),
+        Kind::Bishop => slide_targets(p, Kind::Bishop, from),
         Kind::Knight => knight_targets(p, from),
         Kind::Pawn => way_targets(p, from, capture_targets(p, from)),
     }
@@ -185,8 +185,7 @@ fn way_targets(p: &Setup, from: Square, set: SquareSet) -> SquareSet
     ensures kept { (b : ℕ) → Has set b → Has result b }
     ensures only { (b : ℕ) → Has result b → (Has set b ⊎ ((Leaps from b (forward p.now.side) × (man_at p.now.board b ≡ None)) ⊎ DoublesTo p.now from b)) }
 {
-    let step = forward(p.side);
-    let Some(next) = step.target(from) else {
+    let Some(next) = ahead(p.side, from) else {
         return set;
     };
     if p.board.at(next).is_some() {
@@ -196,7 +195,7 @@ fn way_targets(p: &Setup, from: Square, set: SquareSet) -> SquareSet
     if !is_on_own_rank(p.side, from) {
         return set;
     }
-    match step.target(next) {
+    match ahead(p.side, next) {
         Some(second) => with_empty(p, second, set),
         None => set,
     }
@@ -257,59 +256,12 @@ fn not_own(p: &Setup, set: SquareSet) -> SquareSet
     set.without(p.board.of_colour(p.side))
 }
 
-/// The set, and this square where no man of the mover's own stands on it.
-fn with_free(p: &Setup, s: Square, set: SquareSet) -> SquareSet
-    ensures added { HasNoOwn p.now.board p.now.side s → Has result s }
-    ensures kept { (b : ℕ) → Has set b → Has result b }
-    ensures only { (b : ℕ) → Has result b → (Has set b ⊎ ((b ≡ s) × HasNoOwn p.now.board p.now.side b)) }
+/// Where a man of this kind slides, but to no man of the mover's own.
+#[inline(always)]
+fn slide_targets(p: &Setup, kind: Kind, from: Square) -> SquareSet
+    ensures only { (b : ℕ) → Has result b → (Any (Runs p.now.board from b) (slides kind) × HasNoOwn p.now.board p.now.side b) }
+    ensures all { (b : ℕ) → Any (Runs p.now.board from b) (slides kind) → HasNoOwn p.now.board p.now.side b → Has result b }
 {
-    if has_no_own(&p.board, p.side, s) {
-        set.with(s)
-    } else {
-        set
-    }
-}
-
-/// Where equal steps, of one of these, lead over empty squares, but to no man of the mover's own.
-fn run_targets(p: &Setup, steps: &[Offset], from: Square) -> SquareSet
-    ensures only { (b : ℕ) → Has result b → (Any (Runs p.now.board from b) steps.now × HasNoOwn p.now.board p.now.side b) }
-    ensures all { (b : ℕ) → Any (Runs p.now.board from b) steps.now → HasNoOwn p.now.board p.now.side b → Has result b }
-{
-    let mut set = SquareSet::empty();
-    for step in steps {
-        set = add_run(p, step, from, set);
-    }
-    set
-}
-
-/// The set, and where equal steps of this one lead over empty squares, but to no man of the mover's own.
-#[tactic(auto, using(crate::proofs::Running::run_is))]
-fn add_run(p: &Setup, step: &Offset, from: Square, set: SquareSet) -> SquareSet
-    ensures runs { (b : ℕ) → Runs p.now.board from b step.now → HasNoOwn p.now.board p.now.side b → Has result b }
-    ensures kept { (b : ℕ) → Has set b → Has result b }
-    ensures only { (b : ℕ) → Has result b → (Has set b ⊎ (Runs p.now.board from b step.now × HasNoOwn p.now.board p.now.side b)) }
-{
-    walk_run(p, step, from, set)
-}
-
-/// The set, and each square on the way by this step to the edge or to a man, with this one if it is an enemy.
-#[tactic(auto, using(crate::proofs::Running::step_collects))]
-fn walk_run(p: &Setup, step: &Offset, from: Square, set: SquareSet) -> SquareSet
-    ensures runs { (b : ℕ) → run p.now.board step.now 8 b from ≡ true → HasNoOwn p.now.board p.now.side b → Has result b }
-    ensures kept { (b : ℕ) → Has set b → Has result b }
-    ensures only { (b : ℕ) → Has result b → (Has set b ⊎ ((run p.now.board step.now 8 b from ≡ true) × HasNoOwn p.now.board p.now.side b)) }
-{
-    let mut set = set;
-    let mut at = from;
-    for _i in 0..8u8 {
-        let Some(next) = step.target(at) else {
-            return set;
-        };
-        if p.board.at(next).is_some() {
-            return with_free(p, next, set);
-        }
-        set = set.with(next);
-        at = next;
-    }
-    set
+    let squares = run_squares(p.board.occupied(), kind, from);
+    not_own(p, SquareSet::of_bits(squares))
 }

@@ -13,6 +13,7 @@ use Rattle.cell_core.specs.declared.man.Man.{Man}
 use Rattle.cell_core.specs.declared.step.Move.{Move}
 use Rattle.cell_core.specs.Board.{Men, man_at}
 use Rattle.cell_core.specs.Man.{man, other, is_man, is_of}
+use Rattle.cell_core.specs.Steps.{◌>>=◌}
 use Rattle.chess_laws.specs.declared.setup.Setup.{Setup}
 use Rattle.chess_laws.specs.declared.setup.Wing.{Wing}
 use Rattle.chess_laws.specs.declared.setup.Wing.TheVariants.{KingSide, QueenSide}
@@ -36,7 +37,7 @@ use Rattle.chess_text.specs.declared.shape.Shape.TheVariants.{Castle, Null, Goes
 use Rattle.chess_text.specs.Fault.{fault_of}
 use Rattle.chess_text.specs.Placement.{RanksText, PlacementText}
 use Rattle.chess_text.specs.Fen.{placement_field, kept, FenReads, FenFaultOf}
-use Rattle.chess_text.specs.FieldReading.{◌>>=◌, setup_named}
+use Rattle.chess_text.specs.FieldReading.{setup_named}
 use Rattle.chess_text.specs.SanReading.{shape_named}
 use Rattle.chess_text.specs.SanReads.{has_own_form, Fits, SanReads, SanFaultOf}
 use Rattle.chess_text.specs.SanSearch.{AreTwo, AnswersShape, FitsFrom, FoundBelow}

@@ -3,6 +3,7 @@ use Rattle.std.proofs.Common.{◌≡◌, ℕ, inl, inr, Bool, true, false, cond,
 use Rattle.std.proofs.lemmas.Bool.{leb-true, le-leb}
 use Rattle.cell_core.specs.declared.man.Colour.{Colour}
 use Rattle.cell_core.specs.Board.{Men}
+use Rattle.cell_core.specs.Steps.{◌>>=◌}
 use Rattle.chess_laws.specs.declared.setup.Rights.{Rights}
 use Rattle.chess_laws.specs.declared.setup.Setup.{Setup}
 use Rattle.chess_laws.specs.declared.fault.PlaceFault.{PlaceFault}
@@ -12,7 +13,7 @@ use Rattle.chess_text.specs.declared.fault.FenFault.{FenFault}
 use Rattle.chess_text.specs.declared.fault.FenFault.TheVariants.{Field}
 use Rattle.chess_text.specs.Filling.{board_named}
 use Rattle.chess_text.specs.Fields.{or_word, Spaced}
-use Rattle.chess_text.specs.FieldReading.{word_of, side_named, rights_named, en_passant_named, is_counter, ◌>>=◌, counters_named, rights_from, setup_named, Answers}
+use Rattle.chess_text.specs.FieldReading.{word_of, side_named, rights_named, en_passant_named, is_counter, counters_named, rights_from, setup_named, Answers}
 use Rattle.chess_text.specs.Fault.{fault_of}
 use Rattle.chess_text.specs.Fen.{placement_field, side_field, rights_field, en_passant_field, half_moves_field, moves_field, FenText, FenReads, kept, FaultFrom, FirstFault, FenFaultOf}
 use Rattle.chess_text.proofs.PlacementLaws.{placement_fills, placement_filled}

@@ -12,7 +12,7 @@ use Rattle.chess_text.specs.Fault.{fault_of}
 use Rattle.chess_text.specs.Placement.{PlacementText}
 use Rattle.chess_text.specs.Fields.{Spaced, side_text, RightsText, EnPassantText, CounterText}
 
--- The six fields of a FEN, from its words: fields 3 to 6 may be missing from the right, and are then -, -, 0 and 1; a
+-- The six fields of a FEN, from its words. Fields 3 to 6 may be missing from the right, and are then -, -, 0 and 1. A
 -- missing field 1 or 2 is an empty word, which says nothing (this project's own: the standard wants all six).
 abbrev pub placement_field : List (List ℕ) → List ℕ
 placement_field words = slice_index_or words 0 []
@@ -55,7 +55,7 @@ pub record FenReads (text : List ℕ) (p : Setup) : Type 0 where
   pub position : p ≡ kept says
   pub sound : Sound p
 
--- A field that says nothing is the first fault, and where it says something the first fault comes after it.
+-- A field that says nothing is the first fault, and if it says something the first fault comes after it.
 abbrev pub FaultFrom : {A : Type 0} → ℕ → (A → Type 0) → FenFault → (A → Type 0) → Type 0
 FaultFrom {A} n Says fault Later = (((x : A) → Says x → ⊥) × (fault ≡ Field n)) ⊎ ((x : A) × Says x × Later x)
 

@@ -7,6 +7,7 @@ use Rattle.cell_core.specs.declared.man.Colour.TheVariants.{White, Black}
 use Rattle.cell_core.specs.declared.man.Kind.TheVariants.{King, Pawn}
 use Rattle.cell_core.specs.Board.{Men, man_at}
 use Rattle.cell_core.specs.Man.{other, is_man, is_of}
+use Rattle.cell_core.specs.Steps.{◌>>=◌}
 use Rattle.chess_laws.specs.declared.setup.Setup.{Setup}
 use Rattle.chess_laws.specs.Geometry.{rank_of}
 use Rattle.chess_laws.specs.LegalNow.{some_below, in_check_now}
@@ -14,7 +15,7 @@ use Rattle.chess_laws.specs.Position.{en_passant_rank}
 use Rattle.chess_text.specs.declared.fault.FenFault.{FenFault}
 use Rattle.chess_text.specs.declared.fault.FenFault.TheVariants.{Field, Kings, Pawns, TooMany, InCheck}
 use Rattle.chess_text.specs.Fen.{kept}
-use Rattle.chess_text.specs.FieldReading.{◌>>=◌, setup_named}
+use Rattle.chess_text.specs.FieldReading.{setup_named}
 
 -- The rules of a position as tests (chess_laws has them in words).
 abbrev pub has_kings : Men → Bool

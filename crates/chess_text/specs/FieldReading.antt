@@ -1,10 +1,12 @@
--- What the readers of the fields answer: functions on lists, which the grammar of the fields is proved to agree with.
+-- What the readers of the fields answer (PGN standard, 16.1.3): functions on lists, which the grammar of the fields is
+-- proved to agree with.
 use Rattle.std.specs.Prelude.{◌≡◌, ℕ, ◌+◌, ◌-◌, ◌*◌, ◌==◌, ◌&&◌, not, nat_lt, nat_le, Bool, true, cond, List, [], ◌∷◌, Option, Some, None, option_and_then, ok_or, Result, Ok, Err, MatchResult, drop, length}
 use Rattle.std.specs.List.{list_all, prefix_len, take_while}
 use Rattle.std.specs.Char.{is_ascii_digit}
 use Rattle.cell_core.specs.declared.man.Colour.{Colour}
 use Rattle.cell_core.specs.declared.man.Colour.TheVariants.{White, Black}
 use Rattle.cell_core.specs.Board.{Men}
+use Rattle.cell_core.specs.Steps.{◌>>=◌}
 use Rattle.chess_laws.specs.declared.setup.Rights.{Rights}
 use Rattle.chess_laws.specs.declared.setup.Setup.{Setup}
 use Rattle.chess_laws.specs.declared.fault.PlaceFault.{PlaceFault}
@@ -20,7 +22,7 @@ use Rattle.chess_text.specs.Fen.{kept}
 abbrev pub skipped : List ℕ → List ℕ
 skipped text = drop (prefix_len (λ byte. byte == 32) text) text
 
--- The first word, empty where there is none, and what stands behind it.
+-- The first word, empty if there is none, and what stands behind it.
 unfoldable pub word_of : List ℕ → List ℕ
 word_of text = take_while (λ byte. not (byte == 32)) (skipped text)
 
@@ -32,7 +34,7 @@ abbrev pub side_named : List ℕ → Option Colour
 side_named (byte ∷ []) = cond (byte == 119) (Some White) (cond (byte == 98) (Some Black) None)
 side_named _ = None
 
--- The rights with one more, where the letter names one that is not there yet.
+-- The rights with one more, if the letter names one that is not there yet.
 unfoldable pub with_right : Rights → ℕ → Option Rights
 with_right r letter =
     cond (letter == 75 && not r.white_king_side) (Some (record r { white_king_side = true }))
@@ -61,12 +63,6 @@ en_passant_named side _ = None
 
 abbrev pub is_counter : List ℕ → Bool
 is_counter word = nat_lt 0 (length word) && list_all is_ascii_digit word
-
--- The first fault, or what comes after it.
-infixl 10 ◌>>=◌
-abbrev pub ◌>>=◌ : {A B E : Type 0} → Result A E → (A → Result B E) → Result B E
-(Ok x) >>= next = next x
-(Err fault) >>= next = Err fault
 
 -- Whether the counters are counters, and nothing follows them.
 unfoldable pub counters_named : List ℕ → Result (Unit {0}) FenFault

@@ -40,11 +40,11 @@ side_text Black = 98 ∷ []
 abbrev pub times : ℕ → List ℕ → ℕ
 times letter word = count_by (λ byte. byte == letter) word
 
--- Once where the right is there, else not at all.
+-- Once if the right is there, else not at all.
 abbrev pub once : Bool → ℕ
 once right = cond right 1 0
 
--- A word of castling rights: K, Q, k and q, each once where the right is there, in any order, and nothing else (PGN
+-- A word of castling rights: K, Q, k and q, each once if the right is there, in any order, and nothing else (PGN
 -- standard, 16.1.3.3).
 pub record NamesRights (word : List ℕ) (rights : Rights) : Type 0 where
   pub some : 0 < length word

@@ -1,4 +1,4 @@
--- What the reader of a placement answers.
+-- What the reader of a placement answers (PGN standard, 16.1.3.1).
 use Rattle.std.specs.Prelude.{ℕ, ◌+◌, ◌-◌, ◌*◌, ◌==◌, ◌&&◌, List, [], ◌∷◌, Option, Some, None, cond, nat_lt, nat_le, option_and_then, slice_set, replicate}
 use Rattle.cell_core.specs.declared.man.Man.{Man}
 use Rattle.cell_core.specs.Board.{Men}
@@ -10,18 +10,18 @@ pub record Place : Type 0 where
   pub file : ℕ
   pub board : Men
 
--- After n empty squares, where they fit into the rank.
+-- After n empty squares, if they fit into the rank.
 unfoldable pub after_empty : ℕ → Place → Option Place
 after_empty n place = cond (nat_le (place.file + n) 8) (Some (record place { file = place.file + n })) None
 
--- After a man, where the rank has a square for it.
+-- After a man, if the rank has a square for it.
 unfoldable pub after_man : Man → Place → Option Place
 after_man man place =
     cond (nat_lt place.file 8)
     (Some (record place { file = place.file + 1; board = slice_set place.board (8 * place.rank + place.file) (Some man) }))
     None
 
--- After the end of a rank, where the rank is full and there is a rank below.
+-- After the end of a rank, if the rank is full and there is a rank below.
 unfoldable pub after_slash : Place → Option Place
 after_slash place = cond (place.file == 8 && nat_lt 0 place.rank) (Some (record place { rank = place.rank - 1; file = 0 })) None
 
@@ -34,7 +34,7 @@ after_letter None byte place = cond (nat_lt 48 byte && nat_lt byte 57) (after_em
 unfoldable pub after : ℕ → Place → Option Place
 after byte place = cond (byte == 47) (after_slash place) (after_letter (man_named byte) byte place)
 
--- The board after the whole text, where all eight ranks are full.
+-- The board after the whole text, if all eight ranks are full.
 abbrev pub filled : List ℕ → Place → Option Men
 filled [] place = cond (place.rank == 0 && place.file == 8) (Some place.board) None
 filled (byte ∷ text) place = option_and_then (filled text) (after byte place)

@@ -1,4 +1,4 @@
--- What the readers of letters answer.
+-- What the readers of the letters of men answer (PGN standard, 16.1.3.1).
 use Rattle.std.specs.Prelude.{ℕ, ◌-◌, ◌==◌, [], ◌∷◌, Option, option_map, cond, nat_lt}
 use Rattle.std.specs.List.{find}
 use Rattle.cell_core.specs.declared.man.Colour.TheVariants.{White, Black}

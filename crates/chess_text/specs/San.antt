@@ -51,7 +51,7 @@ capture_text p m = if is_capture p m then codes "x" else []
 abbrev pub promotion_text : Option Kind → List ℕ
 promotion_text promo = option_map_or (λ kind. codes "=" ++ capital_of kind ∷ []) promo []
 
--- A pawn's move: where it captures, its file always (PGN standard, 8.2.3.3).
+-- A pawn's move: if it captures, its file always (PGN standard, 8.2.3.3).
 unfoldable pub pawn_text : Setup → Move → List ℕ
 pawn_text p m = (if is_capture p m then file_text (file_of m.from) ++ codes "x" else []) ++ (square_text m.to ++ promotion_text m.promo)
 

@@ -36,7 +36,7 @@ abbrev pub is_null : Effect → Bool
 is_null effect.Null = true
 is_null _ = false
 
--- Whether a file or a rank is the one that is said, if one is.
+-- Whether a file or a rank is the one that the text gives, if it gives one.
 abbrev pub is_as_said : Option ℕ → ℕ → Bool
 is_as_said said line = option_map_or (λ wanted. line == wanted) said true
 

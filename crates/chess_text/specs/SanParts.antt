@@ -50,7 +50,7 @@ unfoldable pub behind_promotion : List ℕ → List ℕ
 behind_promotion text =
     cond (is_some (promotion_front text)) (behind promotion_named (passed (λ byte. byte == 61) text)) text
 
--- What is aimed at, where only signs follow.
+-- What is aimed at, if only signs follow.
 abbrev pub ended : Option Going → List ℕ → Option Going
 ended going text = cond (list_all is_sign text) going None
 
@@ -71,7 +71,7 @@ from_file kind file text = from_rank kind file (front rank_named text) (behind r
 abbrev pub from_kind : Kind → List ℕ → Option Going
 from_kind kind text = from_file kind (front file_named text) (behind file_named text)
 
--- The kind of the man that moves is a pawn where no letter says another.
+-- The kind of the man that moves is a pawn if no letter says another.
 unfoldable pub going_parts : List ℕ → Option Going
 going_parts text = from_kind (unwrap_or (front piece_named text) Pawn) (behind piece_named text)
 

@@ -12,7 +12,7 @@ use Rattle.chess_text.specs.declared.shape.Shape.TheVariants.{Castle, Null, Goes
 use Rattle.chess_text.specs.Letters.{capital_of}
 use Rattle.chess_text.specs.SanShape.{castling_text, castling_digits, null_text}
 
--- The kind that a letter names where it is what a pawn may become, and where it is any kind but a pawn.
+-- The kind that a letter names if it is what a pawn may become, and if it is any kind but a pawn.
 unfoldable pub promotion_named : ℕ → Option Kind
 promotion_named letter = find (λ kind. letter == capital_of kind) (Queen ∷ Rook ∷ Bishop ∷ Knight ∷ [])
 
@@ -54,7 +54,7 @@ promotion_read text =
     let equals = maybe (one (λ byte. cond (byte == 61) (Some byte) None)) text in
     one promotion_named equals.1
 
--- The man that goes: where no square follows its file and rank and no sign of a capture, they are the target, as in `e4`. Behind a sign
+-- The man that goes: if no square follows its file and rank and no sign of a capture, they are the target, as in `e4`. Behind a sign
 -- of a capture there must be one: `e4x` names no man that goes.
 abbrev pub aimed : Kind → Option ℕ → Option ℕ → Bool → Option ℕ → Option Kind → Option Going
 aimed k file rank takes (Some target) promo =
@@ -63,7 +63,7 @@ aimed k (Some file) (Some rank) false None promo =
     Some (record { kind = k; file = None; rank = None; target = square file rank; promo = promo })
 aimed k _ _ _ None promo = None
 
--- The man that goes: its letter, where a pawn has none, its file, its rank, the sign of a capture, the target and a promotion, each as far
+-- The man that goes: its letter (a pawn has none), its file, its rank, the sign of a capture, the target and a promotion, each as far
 -- as it is said. Only signs of check and mate follow.
 unfoldable pub going_named : List ℕ → Option Going
 going_named text =

@@ -81,7 +81,7 @@ pub record FoundBy (p : Setup) (g : Going) (steps : List ℕ) (n : ℕ) (found :
   pub fits : IfSome found (Fits p (Goes g))
   pub known : (k : ℕ) → k < n → Known p g found (step_on steps g.target k)
 
--- So it is where the squares of the men that are left to be tried are the bits of a word.
+-- So it is if the squares of the men that are left to be tried are the bits of a word.
 pub record FoundBut (p : Setup) (g : Going) (left : ℕ) (found : Option Move) : Type 0 where
   pub fits : IfSome found (Fits p (Goes g))
   pub known : (s : ℕ) → bit_at left s ≡ 0 → Known p g found s

@@ -48,7 +48,7 @@ IsAmong of.More s = ⊤
 abbrev pub Covers : Setup → Going → Starts → ℕ → Type 0
 Covers p g starts s = (m : Move) → Fits p (Goes g) m → m.from ≡ s → IsAmong starts s
 
--- Where there is one square alone, such a man stands there.
+-- If there is one square alone, such a man stands there.
 abbrev pub StandThere : Setup → Going → Starts → Type 0
 StandThere p g of.None = ⊤
 StandThere p g (of.One first) = StandsSo p g first

@@ -17,8 +17,8 @@ use Rattle.chess_text.specs.San.{IsRival, HasRival, HasRivalOnFile, HasRivalOnRa
 abbrev pub SomeBut : ℕ → (ℕ → Type 0) → Type 0
 SomeBut left P = (s : ℕ) × (bit_at left s ≡ 0) × P s
 
--- The other men of this kind that can legally go to the target, where the squares of those that are left to be tried are the ones of
--- a word: any, one on the file of the origin, one on its rank.
+-- The other men of this kind that can legally go to the target: whether there is any, one on the file of the origin,
+-- one on its rank. The word `left` has the squares of those that are still to be tried, and only the others count.
 pub record RivalsBut (p : Setup) (k : Kind) (m : Move) (left : ℕ) (seen : Rivals) : Type 0 where
   pub any : IsTrue seen.any ↔ SomeBut left (IsRival p k m)
   pub on_file : IsTrue seen.on_file ↔ SomeBut left (λ s. IsRival p k m s × (file_of s ≡ file_of m.from))

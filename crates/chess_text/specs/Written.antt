@@ -29,7 +29,7 @@ ranks_text (suc n) board = row_text 0 (take 8 (drop (8 * suc n) board)) ++ 47 �
 abbrev pub placement_text : Men → List ℕ
 placement_text board = ranks_text 7 board
 
--- A letter where the right is there.
+-- A letter if the right is there.
 abbrev pub letter_where : Bool → ℕ → List ℕ
 letter_where right letter = cond right (letter ∷ []) []
 

@@ -20,8 +20,11 @@ use chess_laws::{Position, Setup};
 /// `-`, `-`, `0` and `1`. A castling right whose king or rook is not at home is dropped, and the two counters are read
 /// and not kept.
 ///
-/// The fault is the first one: the first field that is malformed, or missing among the first two; a seventh field; then
-/// the rules of a position in the order of `FenFault`.
+/// The fault is the first one, in this order:
+///
+/// - the first field that is malformed, or missing among the first two;
+/// - a seventh field;
+/// - the rules of a position in the order of `FenFault`.
 pub fn read_fen(text: &[u8]) -> Result<Position, FenFault>
     ensures found { IfOk result (FenReads text.now) }
     ensures only { (p : Setup) → FenReads text.now p → result ≡ Ok p }
@@ -42,7 +45,7 @@ fn read(text: &[u8]) -> Result<Position, FenFault>
     }
 }
 
-// The position of what the fields say, where it keeps the rules.
+// The position of what the fields say, if it keeps the rules.
 fn placed(says: &Setup) -> Result<Position, FenFault>
     ensures ok { IfOk result (λ p. p ≡ kept says.now) }
     ensures sound { IfOk result Sound }

@@ -9,7 +9,7 @@ ghost use Rattle.chess_text.specs.FieldReading.{word_of, rest_of, side_named, wi
 use cell_core::{Colour, Square};
 use chess_laws::{Rights, en_passant_rank};
 
-// The first word of the text, empty where there is none, and what stands behind it.
+// The first word of the text, empty if there is none, and what stands behind it.
 #[tactic(auto, using(crate::proofs::WordLaws::word_is, crate::proofs::WordLaws::rest_is))]
 pub fn next_word(text: &[u8]) -> (&[u8], &[u8])
     ensures word { result.0.now ≡ word_of text.now }
@@ -42,7 +42,7 @@ fn split_word(text: &[u8]) -> (&[u8], &[u8])
     (text, &text[text.len()..])
 }
 
-// The word, or the default where it is empty.
+// The word, or the default if it is empty.
 pub fn or_default<'a>(word: &'a [u8], default: &'a [u8]) -> &'a [u8]
     ensures { result.now ≡ or_word word.now default.now }
 {
@@ -84,7 +84,7 @@ pub fn rights_of(word: &[u8]) -> Option<Rights>
     Some(rights)
 }
 
-// The rights with the one that the letter names, or `None` where it names none or one that is there.
+// The rights with the one that the letter names, or `None` if it names none or one that is there.
 #[tactic(auto, unfolding(crate::specs::FieldReading::with_right))]
 fn add_right(rights: Rights, letter: u8) -> Option<Rights>
     ensures { result ≡ with_right rights letter }

@@ -8,8 +8,8 @@ use super::fault::FenFault;
 use super::letters::man_of;
 use cell_core::{Board, Square};
 
-/// Reads a piece placement, the first field of a FEN (PGN standard, 16.1.3.1): eight ranks from the eighth down with
-/// `/` between them, each of exactly eight squares from file a on. Any other text is `Field(1)`.
+/// Reads a piece placement, the first field of a FEN (PGN standard, 16.1.3.1). It has eight ranks from the eighth down
+/// with `/` between them, each of exactly eight squares from file a on. Any other text is `Field(1)`.
 pub fn read_board(text: &[u8]) -> Result<Board, FenFault>
     ensures found { IfOk result (λ board. PlacementText text.now board) }
     ensures only { (board : Men) → PlacementText text.now board → result ≡ Ok board }
@@ -19,7 +19,7 @@ pub fn read_board(text: &[u8]) -> Result<Board, FenFault>
     board_of(text).ok_or(FenFault::Field(1))
 }
 
-// The board that the text fills from the eighth rank down, or `None` where it is no placement.
+// The board that the text fills from the eighth rank down, or `None` if it is no placement.
 #[tactic(auto, unfolding(crate::specs::Filling::board_named, crate::specs::Filling::after, crate::specs::Filling::after_man, crate::specs::Filling::after_slash, crate::specs::Filling::after_empty))]
 pub fn board_of(text: &[u8]) -> Option<Board>
     ensures exact { result ≡ board_named text.now }

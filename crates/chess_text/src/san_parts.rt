@@ -7,7 +7,7 @@ ghost use Rattle.chess_text.specs.SanParts.{is_capture_sign, front, behind, begi
 
 use cell_core::{Kind, Square};
 
-// The kind that the letter names where a pawn may become it.
+// The kind that the letter names if a pawn may become it.
 #[tactic(auto, unfolding(crate::specs::SanReading::promotion_named))]
 fn promotion_of(letter: u8) -> Option<Kind>
     ensures named { result ≡ promotion_named letter }

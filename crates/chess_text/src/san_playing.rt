@@ -20,8 +20,8 @@ use super::shape::{Going, Shape};
 use cell_core::{Colour, Kind, Move, Square};
 use chess_laws::{Position, Setup};
 
-/// Reads a move in Standard Algebraic Notation as `read_san` does, and plays it. Where one man alone may go to the target, the play
-/// tells whether his move is legal. After a fault nothing has changed.
+/// Reads a move in Standard Algebraic Notation as `read_san` does, and plays it. If one man alone may go to the target, the play
+/// tells whether the move is legal. After a fault nothing has changed.
 pub fn advance_san(p: &mut Position, text: &[u8]) -> Result<Move, SanFault>
     ensures answers { result ≡ san_answer p.old text.now }
     ensures step { IfOk result (λ m. Step p.old m p.new) }

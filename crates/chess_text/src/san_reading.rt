@@ -22,13 +22,22 @@ pub(crate) const WHITE_PAWN_STEPS: [u8; 4] = [56, 48, 55, 57];
 // The same of a black pawn.
 pub(crate) const BLACK_PAWN_STEPS: [u8; 4] = [8, 16, 7, 9];
 
-/// Reads a move in Standard Algebraic Notation (PGN standard, 8.2.3): `O-O`, `O-O-O`, `0-0`, `0-0-0`, `--` for the null
-/// move, or an optional letter of `KQRBN`, an optional file, an optional rank, an optional `x` or `:`, the target square and
-/// an optional promotion (`=`, which may be left out, and a letter of `QRBN`); then any of `+` and `#`. The signs of capture,
-/// check and mate are not checked.
+/// Reads a move in Standard Algebraic Notation (PGN standard, 8.2.3). Castling is `O-O`, `O-O-O`, `0-0` or `0-0-0`, and
+/// the null move is `--`. The text of any other move has these parts in this order, of which only the target square
+/// must be there:
 ///
-/// `Shape` comes exactly where the text is not of this form, `NoMove` where no legal move is of the text's form, and `Two`
-/// where several are.
+/// - a letter of `KQRBN`, a file, and a rank;
+/// - `x` or `:`;
+/// - the target square;
+/// - a promotion, which is a letter of `QRBN`, with or without `=` in front.
+///
+/// Any number of `+` and `#` may follow. The signs of capture, check and mate are not checked.
+///
+/// The fault is
+///
+/// - `Shape` if and only if the text is not of this form,
+/// - `NoMove` if no legal move is of the text's form,
+/// - `Two` if several are.
 pub fn read_san(p: &Position, text: &[u8]) -> Result<Move, SanFault>
     ensures found { IfOk result (SanReads p.now text.now) }
     ensures only { (m : Move) → SanReads p.now text.now m → result ≡ Ok m }
@@ -230,7 +239,7 @@ pub(crate) fn stands_so(p: &Setup, g: &Going, s: Square) -> bool
         && is_as_said(s.index() / 8, &g.rank)
 }
 
-// Whether a file or a rank is the one that is said, if one is.
+// Whether a file or a rank is the one that the text gives, if it gives one.
 fn is_as_said(line: u8, said: &Option<u8>) -> bool
     ensures answers { IsTrue result ↔ IfSome said.now (λ wanted. line ≡ wanted) }
 {

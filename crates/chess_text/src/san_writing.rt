@@ -34,10 +34,16 @@ pub struct Rivals {
 // From a square to those beside it, counted from a1 over h8 back to a1.
 const KING_STEPS: [u8; 8] = [1, 7, 8, 9, 55, 56, 57, 63];
 
-/// Writes a legal move in Standard Algebraic Notation (PGN standard, 8.2.3): the letter of the man, as much of its origin as
-/// tells it from all others of its kind that can legally go there, `x` for a capture, the target, `=` and the letter of a
-/// promotion, and `+` for check or `#` for mate; castling is `O-O` and `O-O-O`, and the null move `--`. `read_san` gives the
-/// move back.
+/// Writes a legal move in Standard Algebraic Notation (PGN standard, 8.2.3). Castling is `O-O` and `O-O-O`, and the
+/// null move `--`. Any other move is
+///
+/// - the letter of the man,
+/// - as much of its origin as tells it from all others of its kind that can legally go to the target,
+/// - `x` for a capture,
+/// - the target,
+/// - `=` and the letter of a promotion.
+///
+/// `+` for check or `#` for mate follows. `read_san` gives the move back.
 pub fn write_san(p: &Position, m: Move) -> ArrayVec<u8, 8>
     requires legal { Legal p.now m }
     ensures text { San p.now m result.items }

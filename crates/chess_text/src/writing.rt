@@ -10,9 +10,9 @@ use cell_core::{Board, Colour, Man, Square, Text};
 use chess_laws::{Position, Rights, Setup};
 use std::alloc::{AllocError, Global};
 
-/// Writes a position in Forsyth-Edwards Notation (PGN standard, 16.1): all six fields with one space between two of
-/// them, each longest run of empty squares of a rank as one digit, the castling rights in the order `KQkq`, and the
-/// counters as `0 1`. It fails only for want of memory.
+/// Writes a position in Forsyth-Edwards Notation (PGN standard, 16.1): all six fields, with one space between two of
+/// them. Each longest run of empty squares of a rank is one digit, the castling rights are in the order `KQkq`, and the
+/// counters are `0 1`. It fails only for want of memory.
 pub fn write_fen(alloc: Global, p: &Position) -> Result<Text, AllocError>
     ensures written { IfOk result (λ text. text ≡ fen_text p.now) }
     ensures read_again { IfOk result (λ text. FenReads text p.now) }
@@ -72,7 +72,7 @@ fn push_row(out: &mut Vec<u8>, squares: &[Option<Man>]) -> Result<(), AllocError
     push_run(out, empty)
 }
 
-// Adds a run of empty squares as its digit, or nothing where there is none.
+// Adds a run of empty squares as its digit, or nothing if the run is empty.
 fn push_run(out: &mut Vec<u8>, empty: u8) -> Result<(), AllocError>
     requires { empty ≤ 8 }
     ensures ok { OnOk result (out.new.items ≡ out.old.items ++ run_text empty) }
@@ -99,7 +99,7 @@ fn push_rights(out: &mut Vec<u8>, rights: &Rights) -> Result<(), AllocError>
     Ok(())
 }
 
-// Adds the letter where the right is there.
+// Adds the letter if the right is there.
 fn push_where(out: &mut Vec<u8>, right: bool, letter: u8) -> Result<(), AllocError>
     ensures ok { OnOk result (out.new.items ≡ out.old.items ++ letter_where right letter) }
 {

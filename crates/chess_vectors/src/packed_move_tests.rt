@@ -63,7 +63,7 @@ fn refuses_with_the_first_fault(rt: HostRuntime) {
     for bytes in short {
         assert!(rt; fault_after(&rt, start, bytes) == Some(MoveFault::Short));
     }
-    // a king's value 11, a queen on her own rank, second bytes below 64 and for d1 and d4, a rook's and a bishop's own
+    // a king's value 11, a queen on its own rank, second bytes below 64 and for d1 and d4, a rook's and a bishop's own
     // square, a bishop and a knight below the board, a knight's value 9
     let value: [&[u8]; 10] = [
         b"\x0b",

@@ -4,7 +4,7 @@ use cell_core::{Board, Colour, Square};
 use chess_laws::{PlaceFault, Position};
 use chess_text::read_board;
 
-/// A setup, its en passant square empty where there is none, and the fault that it has.
+/// A setup, its en passant square empty if it has none, and the fault that it has.
 #[derive(Clone, Copy)]
 struct Placed {
     board: &'static str,

@@ -31,7 +31,7 @@ kept_after change kept = record kept { plies = filter_after None change kept.pli
 abbrev pub game_with : Option ℕ → List (Option GameHit) → ℕ → Entry
 game_with entry hits place = record { hit = in_slot hits place; is_in = is_some entry }
 
--- The games of a watch after a change, where these were the filter of its seat and the number of its view.
+-- The games of a watch after a change, if these were the filter of its seat and the number of its view.
 abbrev pub games_after : Option ℕ → Change → List (Option ℕ) → ℕ → List Entry → List Entry
 games_after entry (Added hits) plies place games = with_game (length plies) (game_with entry hits place) games
 games_after entry (Edited game replaced hits) plies place games = with_game game (game_with (slice_index_or plies game None) hits place) games

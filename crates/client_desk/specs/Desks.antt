@@ -21,7 +21,7 @@ new_seating games = record {
 abbrev pub Apart : Seated → Seated → Type 0
 Apart a b = (i : ℕ) → IsSlot a.slots i → IsSlot b.slots i → ⊥
 
--- A change that a client made was brought to the others, and his own seat is as it was.
+-- A change that a client made was brought to the others, and its own seat is as it was.
 pub record Echoed (by : ℕ) (change : Change) (old new : List Seated) : Type 0 where
   pub own : (d : Seated) → slice_index_or new by d ≡ slice_index_or old by d
   pub others : (c : ℕ) (d : Seated) → (c ≡ by → ⊥) → c < length old → Follows None change (slice_index_or old c d) (slice_index_or new c d)

@@ -1,4 +1,4 @@
--- A seat at a base: what one client has of his own (this project's own).
+-- A seat at a base: what one client has of its own (this project's own).
 use Rattle.std.specs.Prelude.{◌≡◌, ℕ, ◌+◌, ◌<◌, ◌≤◌, ◌&&◌, Bool, nat_lt, List, [], Option, None, All, is_some, length, map, replicate, option_map}
 use Rattle.game_filter.specs.Filter.{all_in}
 use Rattle.filter_seat.specs.SavedFilters.{most_saved}
@@ -26,8 +26,8 @@ pub record IsSeat (seat : Seated) : Type 0 where
   pub watches : EachWatch (GoesBy seat.filter) seat.slots
   pub within : (k : ℕ) → seat.slots.count ≤ k → in_slot seat.slots.watches k ≡ None
 
--- A seat at a base of so many games that was just taken, with `count` slots, the first of which is the view with this number: every game is in
--- at ply 0, and nothing is kept or watched.
+-- A seat at a base of so many games that was just taken. It has `count` slots, the first of which is the view with this
+-- number. Every game is in at ply 0, and nothing is kept or watched.
 abbrev pub new_seat : ℕ → ℕ → ℕ → Seated
 new_seat games first count = record { filter = all_in games; saved = []; slots = record { first = first; count = count; watches = replicate 8 None } }
 

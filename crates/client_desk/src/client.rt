@@ -22,7 +22,7 @@ impl Model for Client {
 impl Client {
     ghost use Rattle.std.specs.Prelude.{◌≡◌, ◌<◌, MatchOption};
 
-    /// The client with this number, or none where it is above 3.
+    /// The client with this number, or none if it is above 3.
     pub fn new(number: u8) -> Option<Client>
         ensures client { MatchOption result (3 < number) (λ client. client ≡ number) }
     {

@@ -1,5 +1,5 @@
-//! Clients on one base: each has a seat of his own, with a filter, filters that are kept by name and slots that show trees, and what one of them
-//! changes of the base is brought to all. Nothing here knows a base.
+//! Clients on one base: each has its own seat, with a filter, filters that are kept by name and slots that show trees.
+//! What one client changes of the base is brought to all. Nothing here knows a base.
 #![tactic(auto)]
 
 mod change;

@@ -7,7 +7,7 @@ use std::marker::Model;
 use tree_live::{Slots, TreeView};
 use tree_rows::GameHit;
 
-/// The parts of a seat. Of what is kept and watched in them nothing is known where a change of them broke off.
+/// The parts of a seat. After a change that broke off, nothing is known of what is kept and watched in them.
 #[derive(Drop)]
 pub(crate) struct Parts {
     pub filter: Filter,

@@ -10,8 +10,8 @@ use std::marker::Model;
 use tree_live::{NoView, Slots, TreeView};
 use tree_rows::GameHit;
 
-/// What one client has of his own at a base: a filter, at most eight filters that are kept by name, and slots that show trees of the games of the
-/// filter.
+/// What one client has of its own at a base: a filter, at most eight filters that are kept by name, and slots that show
+/// trees of the games of the filter.
 ///
 /// Contracts see these three. The views stand in a list outside, which is lent.
 #[derive(Drop)]
@@ -105,14 +105,14 @@ impl Seat {
         Ok(())
     }
 
-    /// The filter that is kept under a name, or none where none is.
+    /// The filter that is kept under a name, or none if none is.
     pub fn saved(&self, name: &[u8]) -> Option<&Filter>
         ensures saved { option_copied result ≡ saved_named self.now.saved name.now }
     {
         named(self.parts.saved.as_slice(), name)
     }
 
-    /// Forgets the filter that is kept under a name; `false` where none is.
+    /// Forgets the filter that is kept under a name; `false` if none is.
     pub fn forget(&mut self, name: &[u8]) -> bool
         ensures forgotten { result ≡ is_kept self.old.saved name.now }
         ensures seat { self.new ≡ record self.old { saved = dropped_in self.old.saved name.now } }
@@ -162,7 +162,7 @@ impl Seat {
         self.parts.slots.unwatch(views, k)
     }
 
-    /// The board and side that slot `k` shows, or none where it is not watched.
+    /// The board and side that slot `k` shows, or none if it is not watched.
     pub fn watched(&self, k: u8) -> Option<&PackedBoard>
         ensures board { option_copied result ≡ option_map (λ watch. watch.board) (in_slot self.now.slots.watches k) }
     {

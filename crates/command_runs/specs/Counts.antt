@@ -13,7 +13,7 @@ pub record Counts : Type 0 where
 abbrev pub counts : ℕ → ℕ → ℕ → Counts
 counts files input output = record { files = files; input = input; output = output }
 
--- A device stops a run only where it counted a fault; want of memory is free.
+-- If a device stops a run, it counted a fault; want of memory is free.
 abbrev pub Why : Stop → Counts → Counts → Type 0
 Why stop.Read old new = Rose old.input new.input
 Why stop.Write old new = Rose old.output new.output

@@ -5,8 +5,8 @@ use Rattle.base_files.specs.Told.{adds}
 use Rattle.command_runs.specs.Tagged.{line_begins, tagged, untagged}
 use Rattle.command_runs.specs.Waiting.{Waiting}
 
--- Where a tagged text begins: its tag, what the sink tells before it and how many faults it has counted, and which references to the sink
--- and to the page it goes through, by their ghost names.
+-- Where a tagged text begins: its tag, what the sink tells before it and how many faults it has counted. Ghost names
+-- tell which references to the sink and to the page it goes through.
 pub record Opening : Type 0 where
   pub tag : List ℕ
   pub told : Option (List ℕ)
@@ -17,7 +17,7 @@ pub record Opening : Type 0 where
 abbrev pub opening : List ℕ → Option (List ℕ) → ℕ → ℕ → ℕ → Opening
 opening tag told faults out_name page_name = record { tag = tag; told = told; faults = faults; out_name = out_name; page_name = page_name }
 
--- No text yet, where the sink tells what it has taken.
+-- No text yet, if the sink tells what it has taken.
 abbrev pub no_text : Option (List ℕ) → Option (List ℕ)
 no_text None = None
 no_text (Some told) = Some []
@@ -28,7 +28,7 @@ told_behind None told = []
 told_behind (Some first) None = []
 told_behind (Some first) (Some told) = drop (length first) told
 
--- The text without its tags, where the sink tells what it took of it; the rest waits.
+-- The text without its tags, if the sink tells what it took of it; the rest waits.
 abbrev pub untagged_text : List ℕ → Option (List ℕ) → Option (List ℕ) → List ℕ → Option (List ℕ)
 untagged_text tag None told waits = None
 untagged_text tag (Some first) None waits = None
@@ -38,7 +38,7 @@ abbrev pub said : Opening → Option (List ℕ) → Waiting → Option (List ℕ
 said o told page = untagged_text o.tag o.told told page.bytes
 
 -- The sink has kept what it had taken before. What it took since, with what waits, is the text so far with its tags, and a line begins
--- behind it where the page says so. Where a write of it failed, a fault was counted.
+-- behind it if the page says so. If a write of it failed, a fault was counted.
 pub record Rendered (o : Opening) (told : Option (List ℕ)) (faults : ℕ) (page : Waiting) : Type 0 where
   pub kept : told ≡ adds o.told (told_behind o.told told)
   pub text : (text : List ℕ) → said o told page ≡ Some text → adds told page.bytes ≡ adds o.told (tagged o.tag text)

@@ -1,7 +1,7 @@
 -- Text whose lines stand behind a tag. This project's own.
 use Rattle.std.specs.Prelude.{ℕ, zero, suc, ◌==◌, Bool, true, if◌then◌else◌, List, [], ◌∷◌, ◌++◌}
 
--- Each line behind the tag; a line begins with the first byte where `begins` says so, and behind each line feed.
+-- Each line behind the tag; a line begins with the first byte if `begins` says so, and behind each line feed.
 unfoldable pub tagged_lines : Bool → List ℕ → List ℕ → List ℕ
 tagged_lines begins tag [] = []
 tagged_lines begins tag (byte ∷ bytes) = (if begins then tag else []) ++ byte ∷ tagged_lines (byte == 10) tag bytes

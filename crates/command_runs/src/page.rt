@@ -41,7 +41,7 @@ impl Model for TagPage {
 }
 
 impl TagPage {
-    /// A page on which nothing waits. It takes all the memory that it will use, where no tag has more than 64 bytes.
+    /// A page on which nothing waits. It takes all the memory that it will use, if no tag has more than 64 bytes.
     pub fn new(alloc: Global) -> Result<TagPage, AllocError>
         ensures nothing { IfOk result (λ page. page ≡ none_waits) }
     {
@@ -97,7 +97,7 @@ impl TagPage {
     }
 
     // Puts the front of a piece, of one line at most, behind its tag on the page, and says how many bytes of the piece it was. First it
-    // writes what waits, where that fills the page.
+    // writes what waits, if that fills the page.
     fn add<K: Sink>(&mut self, out: &mut K, tag: &[u8], piece: &[u8]) -> Result<usize, DeviceError>
         requires some { 0 < length piece.now }
         ensures some { IfOk result (λ n. 0 < n) }

@@ -51,12 +51,13 @@ numbers_from next (false ∷ deleted) = Some next ∷ numbers_from (next + 1) de
 abbrev pub numbering : List Entry → Numbering
 numbering entries = record { to = numbers_from 0 (map (λ e. e.deleted) entries); kept = length (staying entries) }
 
--- Where the files tell the base, they now hold it after a compaction.
+-- If the files tell the base, they now hold it after a compaction.
 abbrev pub Compacts : Kept → Kept → Option (List ℕ) → Option (List ℕ) → Type 0
 Compacts old new told now = IfSome told (λ games. IfSome now (λ fresh. (base : Base) → Represents old games base → Represents new fresh (compacted base)))
 
--- The bytes are the record of a game that stays: as many as are kept of it, those that the games file has there, where it tells them, and, whatever
--- it holds, a record of a legal game with the signature that is kept.
+-- The bytes are the record of a game that stays. They are as many as are kept of it, and those that the games file has
+-- there, if it is told. Whatever the games file holds, they are a record of a legal game with the signature that is
+-- kept.
 pub record IsRecordKept (games : Option (List ℕ)) (e : Entry) (bytes : List ℕ) : Type 0 where
   pub long : length bytes ≡ e.len
   pub read : Tells (part_told games e.offset e.len) bytes
@@ -87,14 +88,15 @@ pub record IsCommitted (old new : Kept) (before after : Seen) : Type 0 where
   pub writes : Writes new index names
   pub put : after ≡ committed names index (record before { fresh = option_map (new_games old.entries) before.games; added = new_end old.entries })
 
--- What each error says: `Full` comes exactly where the new games file would pass its limit.
+-- What each error says: `Full`, that the new games file would pass its limit; `Failed` and `Changed`, that it would
+-- not.
 abbrev pub WhyNotCompacted : Kept → Option (List ℕ) → List ℕ → CompactError → Type 0
 WhyNotCompacted kept told buf error.Full = longest_file < new_end kept.entries
 WhyNotCompacted kept told buf error.Failed = new_end kept.entries ≤ longest_file
 WhyNotCompacted kept told buf (error.Changed game sig found) = (new_end kept.entries ≤ longest_file) × IsChanged kept told game buf game sig found
 WhyNotCompacted kept told buf error.Memory = ⊤
 
--- The fact, where the error tells a change.
+-- The fact, if the error tells a change.
 abbrev pub IfChanged : CompactError → Type 0 → Type 0
 IfChanged (error.Changed game sig found) Fact = Fact
 IfChanged _ Fact = ⊤

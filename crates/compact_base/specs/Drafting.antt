@@ -36,8 +36,8 @@ WhyNotDrafted end error.Full = longest_file < end
 WhyNotDrafted end error.Memory = ⊤
 WhyNotDrafted end _ = ⊥
 
--- The record of an entry was read, is still one of a game with the signature that is kept, and was added to the new games file, which ended there:
--- it ends behind the record now.
+-- The record of an entry was read, is still one of a game with the signature that is kept, and was added to the new
+-- games file. The file ended there before, and ends behind the record now.
 pub record IsCopied (e : Entry) (end after : ℕ) (old new : Seen) : Type 0 where
   pub bytes : List ℕ
   pub long : length bytes ≡ e.len

@@ -18,13 +18,17 @@ use base_files::Files;
 use game_filter::Renumbering;
 use std::alloc::Global;
 
-/// Leaves the undeleted games in their order, with the bytes of their records, and the names that they use; the three files mean this base
-/// then. Tells how the games are numbered anew. `buf` has room for the longest record.
+/// Leaves the undeleted games in their order, with the bytes of their records, and the names that they use. The three
+/// files mean this base then. Tells how the games are numbered anew. `buf` has room for the longest record.
 ///
 /// # Errors
 ///
-/// `Full` exactly where the new games file would pass 4,294,967,295 bytes; `Changed` where a record has changed since the base was opened;
-/// `Failed` where the files fail, and `Memory`. The base and its current files are then as they were.
+/// - `Full` if the new games file would pass 4,294,967,295 bytes.
+/// - `Changed` if a record has changed since the base was opened.
+/// - `Failed` if the files fail.
+/// - `Memory` for want of memory.
+///
+/// The base and its current files are then as they were.
 pub fn compact<F: Files>(
     alloc: Global,
     base: &mut Base,
@@ -44,7 +48,7 @@ pub fn compact<F: Files>(
     ensures saved { OnOk result (base.new.unsaved ≡ false) }
     ensures room { OnOk result (new_end base.old.entries ≤ longest_file) }
     ensures why { IfErr result (WhyNotCompacted base.old (F.seen files.old).games buf.new) }
-    // Where the files tell the records of a base, no game has changed.
+    // If the files tell the records of a base, no game has changed.
     ensures same { IfErr result (λ error. IfChanged error (IfSome (F.seen files.old).games (λ games. (plain : PlainBase) → Represents base.old games plain → ⊥))) }
     ensures unchanged { OnErr result (base.new ≡ base.old) }
     // Of the files the new games file alone may have changed.

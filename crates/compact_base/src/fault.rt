@@ -18,8 +18,8 @@ pub enum CompactError {
     /// The files failed.
     #[error("the files of the base failed")]
     Failed,
-    /// The bytes of a game's record are no longer those of a game with the signature that is kept: they are no record, or one of a game
-    /// whose signature is `found`.
+    /// The bytes of a game's record are no longer those of a game with the signature that is kept. They are no record,
+    /// or one of a game whose signature is `found`.
     #[error("game {game} has changed")]
     Changed {
         game: u32,

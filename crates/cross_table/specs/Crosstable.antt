@@ -37,7 +37,7 @@ has_result Draw = true
 
 -- ---- a game from the side of one of its names
 
--- How a game with this result ended for a name, where it ends with these scores if White won, and if Black did. It is open where the
+-- How a game with this result ended for a name, where it ends with these scores if White won, and if Black did. It is open if the
 -- result is unknown.
 abbrev pub score_by : Score → Score → Outcome → Score
 score_by white black White = white
@@ -90,7 +90,7 @@ with_name names name = if list_any (bytes_eq name) names then names else names +
 unfoldable pub names_of : List Pairing → List (List ℕ)
 names_of games = fold (λ (names : List (List ℕ)) (game : Pairing). with_name (with_name names game.white) game.black) [] games
 
--- A name stands before another where it has more half points, or as many and bytes that come before.
+-- A name stands before another if it has more half points, or as many and bytes that come before.
 abbrev pub stands_before : List Pairing → List ℕ → List ℕ → Bool
 stands_before games a b =
     nat_lt (half_points b games) (half_points a games)
@@ -120,7 +120,7 @@ unfoldable pub signs : List Pairing → List ℕ → List ℕ → List ℕ
 signs games row column =
     map (λ (m : Meeting). sign m.score) (filter (λ (m : Meeting). bytes_eq column m.other) (meetings row games))
 
--- A dot where there is no sign.
+-- A dot in the place of no sign.
 abbrev pub or_dot : List ℕ → List ℕ
 or_dot [] = codes "."
 or_dot (first ∷ more) = first ∷ more

@@ -1,4 +1,4 @@
--- What the functions of this crate keep on their way: names by their places.
+-- What the functions of this crate keep on their way: names by their places (this project's own).
 use Rattle.std.specs.Prelude.{ℕ, zero, suc, ◌+◌, ◌==◌, nat_lt, Bool, ◌&&◌, ◌||◌, if◌then◌else◌, List, [], ◌∷◌, ◌++◌, Option, None, Some, map, filter, count_by, codes, slice_index_or}
 use Rattle.std.specs.Fmt.{decimal}
 use Rattle.std.specs.List.{filter_map, flat_map, fold, list_any, position_or_len, sum_by}
@@ -23,7 +23,7 @@ front_text rank name half games = decimal rank ++ (32 ∷ name ++ (32 ∷ points
 abbrev pub last_text : ℕ → ℕ → List ℕ
 last_text players games = codes "cross " ++ (decimal players ++ (codes " players " ++ (decimal games ++ codes " games\n")))
 
--- The place of a name among others: the number of them where it is new.
+-- The place of a name among others: the number of them if it is new.
 abbrev pub place_of : List (List ℕ) → List ℕ → ℕ
 place_of names name = position_or_len (bytes_eq name) names
 

@@ -4,7 +4,7 @@ ghost use Rattle.cross_table.specs.Crosstable.{half_points_of, is_known, score_b
 
 use game_tree::Outcome;
 
-/// How a game ended for one of its two names. It is open where its result is unknown.
+/// How a game ended for one of its two names. It is open if its result is unknown.
 #[derive(Clone, Copy, Debug, PartialEq, Eq)]
 pub(crate) enum Score {
     Won,

@@ -34,8 +34,9 @@ impl Model for Table {
 }
 
 impl Table {
-    /// Adds the text of the table: a line for each name, with its rank, its points, its games with a known result and its cells, and a
-    /// line that counts the names and all of the event's games. After want of memory the bytes are as they were.
+    /// Adds the text of the table. It has a line for each name, with its rank, its points, its games with a known
+    /// result and its cells. The last line counts the names and all of the event's games. After want of memory the
+    /// bytes are as they were.
     pub fn write(&self, into: &mut Vec<u8>) -> Result<(), AllocError>
         ensures text { OnOk result (into.new.items ≡ into.old.items ++ table_text self.now) }
         ensures unchanged { OnErr result (into.new.items ≡ into.old.items) }
@@ -49,7 +50,7 @@ impl Table {
 
 /// The crosstable of an event in a base: of the games that are not deleted, have this event name and two names that differ.
 ///
-/// It is refused where more than 200 names play, and where memory was.
+/// It is refused if more than 200 names play, and for want of memory.
 pub fn cross<G: Games>(alloc: Global, games: &G, event: &[u8]) -> Result<Table, CrossError>
     ensures table { IfOk result (λ table. table ≡ crosstable event.now (G.heads games.now)) }
     ensures few { IfOk result (λ _. players event.now (G.heads games.now) ≤ 200) }

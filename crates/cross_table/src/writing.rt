@@ -97,7 +97,7 @@ fn push_cell(into: &mut Vec<u8>, row: &Row, column: &Row) -> Result<(), AllocErr
     Ok(())
 }
 
-// Adds the signs of a name's games with the name at a place, or a dot where there are none.
+// Adds the signs of a name's games with the name at a place, or a dot if there are none.
 fn push_or_dot(into: &mut Vec<u8>, met: &[Met], id: u32) -> Result<(), AllocError>
     ensures { OnOk result (into.new.items ≡ into.old.items ++ or_dot (signs_with id met.now)) }
 {

@@ -31,11 +31,11 @@ after_draws (suc count) x = after_draws count (next_number x)
 
 -- ---- the line of a game
 
--- The move that a draw takes of these, and none where there is none or are more than 256.
+-- The move that a draw takes of these, and none if there are none or more than 256.
 unfoldable pub picked : ℕ → List Move → Option Move
 picked draw moves = if nat_lt 256 (length moves) then None else slice_get moves (draw % length moves)
 
--- A line from a position of at most so many plies, each drawn from the legal moves. It ends where no move is drawn.
+-- A line from a position of at most so many plies, each drawn from the legal moves. It ends when no move is drawn.
 abbrev pub line_drawn : ℕ → ℕ → Setup → List Move
 line_drawn zero x p = []
 line_drawn (suc plies) x p = option_map_or (λ m. m ∷ line_drawn plies (next_number x) (stepped p m)) (picked (drawn x) (legal_moves p)) []

@@ -47,8 +47,9 @@ impl Generator {
         Generator { number: seed }
     }
 
-    /// Makes the next game, as that of this number: its result is drawn first, then at most 60 plies from the initial position,
-    /// which end where there is no legal move, or more than 256. It fails only for want of memory, and is then spent.
+    /// Makes the next game, as that of this number. Its result is drawn first, then at most 60 plies from the initial
+    /// position. The line ends earlier at a position with no legal move, or with more than 256. It fails only for want
+    /// of memory, and is then spent.
     #[tactic(auto, using(crate::proofs::Drawing::made_is, crate::proofs::Drawing::made_short))]
     pub fn make(&mut self, alloc: Global, number: u32) -> Result<(Head, Game), AllocError>
         ensures made { IfOk result (λ made. demo_game self.old number ≡ record { head = made.0; game = made.1; left = self.new }) }
@@ -88,7 +89,7 @@ impl Generator {
         Ok(line)
     }
 
-    // Draws one of the legal moves, where there are some and not too many. Where there are none it draws nothing.
+    // Draws one of the legal moves, or nothing if there are none or too many.
     fn pick(&mut self, position: &Position) -> Option<Move>
         ensures picked { result ≡ picked (drawn self.old) (legal_moves position.now) }
         ensures left { MatchOption result (self.new ≡ self.old) (λ _. self.new ≡ next_number self.old) }

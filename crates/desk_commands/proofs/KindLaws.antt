@@ -19,9 +19,9 @@ use Rattle.game_tree.specs.TagEdit.{edited}
 use Rattle.game_tree.specs.declared.head.Head.{Head}
 use Rattle.game_tree.specs.declared.tag_edit.TagEdit.{TagEdit}
 use Rattle.index_commands.specs.Indexing.{is_too_big}
-use Rattle.intake_commands.proofs.DemoLaws.{adding_carried, unless_shown}
+use Rattle.search_commands.proofs.DemoLaws.{adding_carried, unless_shown}
 use Rattle.intake_commands.proofs.IntakeLaws.{item_keeps}
-use Rattle.intake_commands.specs.Demo.{adding}
+use Rattle.search_commands.specs.Demo.{adding}
 use Rattle.intake_commands.specs.Importing.{Intake, intake, item_after, none_taken, state_with, the_new}
 use Rattle.pgn_read.specs.Items.{items_of}
 use Rattle.pgn_read.specs.declared.item.Item.{Item}

@@ -8,8 +8,8 @@ use Rattle.script_lines.specs.Clients.{Clients}
 use Rattle.shell_state.specs.Slots.{Slot, slot_at}
 use Rattle.shell_state.specs.Slots.Slot.{empty, idle, shows}
 use Rattle.shell_state.specs.State.{Shared, State}
-use Rattle.search_commands.specs.Trees.{tree_hits}
 use Rattle.shell_state.specs.Slots.{exactly_on}
+use Rattle.shell_state.specs.Meeting.{tree_hits}
 use Rattle.tree_live.specs.Slots.{in_slot}
 use Rattle.tree_live.specs.Views.{Shows}
 use Rattle.tree_rows.specs.declared.hit.GameHit.{GameHit}

@@ -1,4 +1,4 @@
--- Clients over the plain machine: each has a seat and slots of his own, and they share the base. This project's own.
+-- Clients over the plain machine: each has its own seat and slots, and they share the base. This project's own.
 use Rattle.std.specs.Fmt.{decimal}
 use Rattle.std.specs.Option.{option_map_or}
 use Rattle.std.specs.Prelude.{ℕ, zero, suc, ◌+◌, ◌-◌, if◌then◌else◌, Bool, true, List, [], ◌∷◌, ◌++◌, Option, Some, None, Ok, codes, length, map, replicate, slice_get, unwrap_or}
@@ -37,7 +37,7 @@ desk_begin tagged created slots base = record {
 
 -- ---- what one client sees
 
--- The slots that a client has of his own: two of them at a desk of four, and all where there is no other.
+-- The slots that are a client's own: two of them at a desk of four, and all of them for a single client.
 abbrev pub window_of : Clients → ℕ → Window
 window_of clients client = if clients.tagged then record { first = client + client; count = 2 } else all_slots
 
@@ -45,7 +45,7 @@ window_of clients client = if clients.tagged then record { first = client + clie
 abbrev pub seen_by : Desk → ℕ → State
 seen_by desk client = record { shared = desk.shared; seat = unwrap_or (slice_get desk.seats client) (first_seat 0); slots = desk.slots }
 
--- His task, by itself.
+-- A task of a client, by itself.
 abbrev pub own_tasks : Desk → ℕ → Plain State Task
 own_tasks desk client = tasks (window_of desk.clients client)
 
@@ -56,8 +56,9 @@ abbrev pub extended : List (Option ℕ) → Seat → Seat
 extended more seat =
     record { filter = seat.filter ++ more; saved = map (λ (kept : SavedFilter). record kept { plies = kept.plies ++ more }) seat.saved }
 
--- What a command brings to the seat of another client, where these are what is shared before and after it: the games that it adds are out
--- of his filters, and what it moves, it moves there as if he had said it. Every other one leaves his seat as it is.
+-- What a command brings to the seat of another client; these are what is shared before and after it. The games that it
+-- adds are out of the other client's filters. What it moves, it moves there as if the other client had said it. Every
+-- other command leaves that seat as it is.
 abbrev pub brought : Order → List ℕ → Shared → Shared → Seat → Seat
 brought (Ok (Import word)) body before after seat = extended (replicate (length after.base.games - length before.base.games) None) seat
 brought (Ok (Demo seed games)) body before after seat = extended (replicate (length after.base.games - length before.base.games) None) seat
@@ -72,7 +73,8 @@ each_seat client own bring [] = []
 each_seat zero own bring (seat ∷ seats) = own ∷ map bring seats
 each_seat (suc client) own bring (seat ∷ seats) = bring seat ∷ each_seat client own bring seats
 
--- The command is what it is to its client, on what is shared, his seat and the slots, and is brought to the seats of the others.
+-- The command is what it is to its client, on what is shared, the client's seat and the slots. It is brought to the
+-- seats of the others.
 abbrev pub desk_with : Desk → ℕ → Task → State → Desk
 desk_with desk client task s = record desk {
   shared = s.shared;
@@ -105,7 +107,7 @@ abbrev pub desk_said : Desk → ℕ → Task → List ℕ
 desk_said desk client task =
     if has_ended desk.clients client then unless_nothing (codes "client ended") task.order else (own_tasks desk client).text (seen_by desk client) task
 
--- A text as it goes out to a client: each line behind his tag, where there are tags.
+-- A text as it goes out to a client: each line behind the client's tag, if clients have tags.
 abbrev pub lines_to : Clients → ℕ → List ℕ → List ℕ
 lines_to clients client text = if clients.tagged then tagged_lines true (codes "@" ++ decimal client ++ codes " ") text else text
 

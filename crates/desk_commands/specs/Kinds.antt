@@ -6,8 +6,9 @@ use Rattle.script_text.specs.declared.command.Command.TheVariants.{Import, Repla
 use Rattle.desk_commands.specs.declared.kinds.Kind.{Kind}
 use Rattle.desk_commands.specs.declared.kinds.Kind.TheVariants.{Private, Public, Adds, Moves}
 
--- A private command changes its client's seat and his slots alone. A public one may change what is shared: it leaves the seats of the others as
--- they are, or adds games, or moves their entries in each seat in the same way; `quit` ends its client, of which all know.
+-- A private command changes the seat and the slots of its client alone. A public one may change what is shared. It
+-- leaves the seats of the others as they are, or adds games, or moves their entries in each seat in the same way.
+-- `quit` ends its client, of which all know.
 abbrev pub command_kind : Command → Kind
 command_kind (Import word) = Adds
 command_kind (Demo seed games) = Adds

@@ -34,7 +34,7 @@ pub record DeskHolding : Type 0 where
 abbrev pub with_seat : Holding → Seat → Holding
 with_seat holding seat = record holding { seat = seat }
 
--- It stands for this desk, where the files are told: whoever sits in it, for what he sees.
+-- It stands for this desk, if the files are told: whichever client sits in it, for what that client sees.
 pub record DeskStands (held : DeskHolding) (seen : Seen) (desk : Desk) : Type 0 where
   pub seats : held.seats ≡ desk.seats
   pub clients : held.clients ≡ desk.clients
@@ -50,7 +50,7 @@ DeskSound held seen = All (λ seat. Sound (with_seat held.holding seat) seen) he
 abbrev pub effective : Clients → Option ℕ → Order → Order
 effective clients client order = option_map_or (λ client. if has_ended clients client then Ok Nothing else order) client (Ok Nothing)
 
--- What it asks at most of the games file: nothing, where no client says it.
+-- What it asks at most of the games file: nothing, if no client says it.
 abbrev pub line_price : Desk → Line → ℕ
 line_price desk line =
     price (seen_by desk (unwrap_or line.client 0)) (order_work all_slots (effective desk.clients line.client line.order) [])
@@ -63,7 +63,7 @@ line_left desk line = (order_work all_slots (effective desk.clients line.client 
 abbrev pub BrokenLine : Desk → Tagged → Halt → Type 0
 BrokenLine desk t e = Broken (seen_by desk 0) (order_work all_slots (effective desk.clients t.client t.task.order) t.task.body) e
 
--- What is known of the files where one was broken off that leaves a base in their place: nothing of its text was written, or they carry what
+-- What is known of the files if one was broken off that leaves a base in their place: nothing of its text was written, or they carry what
 -- the desk behind it says.
 abbrev pub SettledLine : Seen → Desk → Tagged → Option (List ℕ) → Option (List ℕ) → Type 0
 SettledLine seen desk t told told' =

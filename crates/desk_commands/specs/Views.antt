@@ -26,7 +26,7 @@ line_watches desk line i = watches (window_of desk.clients (unwrap_or line.clien
 abbrev pub line_touches : Desk → Line → ℕ → Bool
 line_touches desk line i = is_shown (slot_at desk.slots i) || line_watches desk line i
 
--- How many changes a line tells the view of a slot at most: one for each row that differs behind it; where it watches the slot, one more than
+-- How many changes a line tells the view of a slot at most: one for each row that differs behind it; if it watches the slot, one more than
 -- hits are shown then.
 abbrev pub line_told : Desk → Tagged → ℕ → ℕ
 line_told desk t i =

@@ -57,8 +57,8 @@ impl Desk {
         requires new { clients ≡ new_clients clients.tagged }
         ensures clients { IfOk result (λ desk. desk.clients ≡ clients) }
 
-        // Where its base ends with the games file it is sound, and where its base was opened or created it stands for the desk in which a script
-        // begins.
+        // If its base ends with the games file, it is sound. If its base was opened or created, it stands for the desk
+        // in which a script begins.
         ensures sound { IfOk result (λ desk. (seen : Seen) → IsEnd base.end seen → DeskSound desk seen) }
         ensures stands { IfOk result (λ desk. (seen : Seen) (created : Bool) (slots : List Slot) (plain : PlainBase) → ShowNone slots → IsOpen base seen created plain → DeskStands desk seen (desk_begin clients.tagged created slots plain)) }
     {

@@ -5,7 +5,7 @@ ghost use Rattle.desk_commands.specs.Kinds.{command_kind, is_private, order_kind
 use script_lines::Order;
 use script_text::Command;
 
-/// What a command changes beside its client's seat and his slots.
+/// What a command changes beside the seat and the slots of its client.
 #[derive(Clone, Copy, Debug, PartialEq, Eq)]
 pub enum Kind {
     /// Nothing.

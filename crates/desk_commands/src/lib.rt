@@ -1,4 +1,5 @@
-//! One base for several clients: each has a seat and slots of his own, and what one of them changes of the base is brought to all.
+//! One base for several clients: each has its own seat and slots, and what one of them changes of the base is brought
+//! to all.
 #![tactic(auto)]
 
 mod desk;

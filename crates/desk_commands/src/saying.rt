@@ -15,7 +15,7 @@ use script_text::Command;
 use shell_state::{Halt, error_line, write_line};
 use std::alloc::{AllocError, Global};
 
-// What stands before each line that is said to a client.
+// The tag of a client, which stands before each of its lines.
 pub(crate) fn client_tag(client: u8) -> [u8; 3]
     requires client { client < 4 }
     ensures tag { result ≡ client_tag client }
@@ -33,7 +33,7 @@ fn unless_nothing(alloc: Global, words: &[u8], order: &Order) -> Result<Vec<u8>,
     }
 }
 
-// Writes a text to a client, each line of it behind his tag where there are tags.
+// Writes a text to a client, each line of it behind the client's tag if clients have tags.
 fn write_to<K: Sink>(
     out: &mut K,
     page: &mut TagPage,
@@ -54,7 +54,7 @@ fn write_to<K: Sink>(
     }
 }
 
-// Says that no client says a line, where it says something.
+// Says that no client says a line, if it says something.
 pub(crate) fn say_nobody<K: Sink>(alloc: Global, out: &mut K, order: &Order) -> Result<(), Halt>
     ensures written { OnOk result (K.taken out.new ≡ adds (K.taken out.old) (unless_nothing (codes "no client") order.now)) }
     ensures halted { Halted [] (unless_nothing (codes "no client") order.now) (K.taken out.old) (K.taken out.new) }
@@ -66,7 +66,7 @@ pub(crate) fn say_nobody<K: Sink>(alloc: Global, out: &mut K, order: &Order) -> 
     write_line(out, text.as_slice())
 }
 
-// Says to a client that he has ended, where his line says something.
+// Tells a client that it has ended, unless its line says nothing.
 pub(crate) fn say_late<K: Sink>(
     alloc: Global,
     out: &mut K,

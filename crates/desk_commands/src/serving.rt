@@ -35,9 +35,9 @@ use shell_state::Halt;
 use std::alloc::Global;
 use tree_live::TreeView;
 
-/// Does what a line says for the client who says it, brings it to the others, and writes its text, each line of it behind his tag where there are
-/// tags; and keeps the views of all slots right. Of a line without a body nothing of `body` is read, nor of one that no client says, or one who
-/// has ended.
+/// Does what a line says for the client that says it, brings it to the others, and writes its text. If clients have
+/// tags, each line of the text stands behind the client's tag. The views of all slots stay right. Nothing of `body` is
+/// read for a line without a body, for a line of no client, or for one of a client that has ended.
 pub fn serve<F: Files, B: Source, K: Sink>(
     alloc: Global,
     desk: &mut Desk,
@@ -53,7 +53,7 @@ pub fn serve<F: Files, B: Source, K: Sink>(
     requires order { IsSoundLine line.now.order }
     requires client { IfSome line.now.client (λ client. client < 4) }
 
-    // Where the files and the body are told, and the views are right, the machine stands for the desk after the line and its text is written, or a
+    // If the files and the body are told, and the views are right, the machine stands for the desk after the line and its text is written, or a
     // front part of it.
     ensures serves { (d : PlainDesk) (text : List ℕ) → DeskStands desk.old (F.seen files.old) d → B.left body.old ≡ Some text → AllRight (λ b. rows b) d views.old → Serves desks (DeskStands desk.new (F.seen files.new)) BrokenLine d (tagged_task line.now text) (K.taken out.old) (K.taken out.new) result }
 
@@ -63,13 +63,13 @@ pub fn serve<F: Files, B: Source, K: Sink>(
     ensures number { length views.new ≡ length views.old }
     ensures sound { OnOk result (DeskSound desk.new (F.seen files.new)) }
 
-    // Where it is broken off the files carry what they carried, or perhaps what `save` saves or `compact` leaves.
+    // If it is broken off, the files carry what they carried, or perhaps what `save` saves or `compact` leaves.
     ensures carries { (d : PlainDesk) (text : List ℕ) → DeskStands desk.old (F.seen files.old) d → B.left body.old ≡ Some text → AllRight (λ b. rows b) d views.old → IfErr result (λ _. StillCarry (F.seen files.new) (seen_by d 0) (line_left d line.now)) }
 
-    // Where the files fail nothing of its text was written, unless it writes while it works.
+    // If the files fail, nothing of its text was written, unless it writes while it works.
     ensures unsaid { writes_early line.now.order ≡ false → IfErr result (λ e. Unsaid e (K.taken out.old) (K.taken out.new)) }
 
-    // Where it is one that leaves a base in their place, nothing of its text was written before they carry that.
+    // If it is one that leaves a base in their place, nothing of its text was written before they carry that.
     ensures settled { (d : PlainDesk) (text : List ℕ) → DeskStands desk.old (F.seen files.old) d → B.left body.old ≡ Some text → AllRight (λ b. rows b) d views.old → IfErr result (λ _. SettledLine (F.seen files.new) d (tagged_task line.now text) (K.taken out.old) (K.taken out.new)) }
 
     // Whatever the files tell, they change by a line alone that may change them, and no base is chosen.
@@ -215,7 +215,7 @@ fn serve_by<F: Files, B: Source, K: Sink>(
     }
 }
 
-// Shows what a client has done to the others, where it may concern them.
+// Shows what a client has done to the others, if it may concern them.
 fn show_after(
     alloc: Global,
     desk: &mut Desk,

@@ -60,7 +60,7 @@ pub(crate) fn show_others(
     Ok(())
 }
 
-// Tells those of the next client, if he is another one.
+// Tells the views of the next client, unless it is the one that spoke.
 fn show_next(
     alloc: Global,
     machine: &mut Machine,

@@ -1,4 +1,4 @@
-//! What a line does for the client who says it, while he sits in the machine.
+//! What a line does for the client that says it, while the client sits in the machine.
 ghost use Rattle.std.specs.Prelude.{◌≡◌, ◌≤◌, ◌<◌, ◌+◌, if◌then◌else◌, [], ℕ, List, Some, false, length, OnOk, IfErr};
 ghost use Rattle.base_files.specs.Told.{adds};
 ghost use Rattle.command_runs.specs.Counts.{Causes, counts};
@@ -34,7 +34,7 @@ use std::marker::Brand;
 use tree_live::TreeView;
 use view_commands::Window;
 
-// The slots that a client has of his own.
+// The slots that are a client's own.
 pub(crate) fn window_of(clients: &Clients, client: u8) -> Window
     requires client { client < 4 }
     ensures window { result ≡ window_of clients.now client }
@@ -50,7 +50,8 @@ pub(crate) fn window_of(clients: &Clients, client: u8) -> Window
     }
 }
 
-// Does what a line says for its client, whom it finds in his seat, and brings it to the others. Nothing is shown to them.
+// Does what a line says for its client, which it finds in its seat, and brings it to the others. Nothing is shown to
+// them.
 pub(crate) fn serve_seated<F: Files, B: Source, K: Sink>(
     alloc: Global,
     desk: &mut Desk,
@@ -110,7 +111,8 @@ pub(crate) fn serve_seated<F: Files, B: Source, K: Sink>(
     Ok(())
 }
 
-// Does what a line says for the client who sits in the machine, and writes its text, each line of it behind his tag where there are tags.
+// Does what a line says for the client that sits in the machine, and writes its text. If clients have tags, each line
+// of the text stands behind the client's tag.
 fn serve_client<F: Files, B: Source, K: Sink>(
     alloc: Global,
     machine: &mut Machine,
@@ -155,7 +157,7 @@ fn serve_client<F: Files, B: Source, K: Sink>(
     }
 }
 
-// The same where there are tags, of which this is his.
+// The same for a client with this tag.
 fn serve_tagged<F: Files, B: Source, K: Sink>(
     alloc: Global,
     machine: &mut Machine,

@@ -19,10 +19,10 @@ use Rattle.game_tree.specs.TagEdit.{edited}
 use Rattle.game_tree.specs.declared.head.Head.{Head}
 use Rattle.game_tree.specs.declared.tag_edit.TagEdit.{TagEdit}
 use Rattle.index_commands.specs.Indexing.{is_too_big}
-use Rattle.intake_commands.proofs.DemoLaws.{unless_said, unless_shown}
-use Rattle.intake_commands.specs.Demo.{Adding, adding, one_more}
+use Rattle.search_commands.proofs.DemoLaws.{unless_said, unless_shown, unless_ended, unless_refusal}
+use Rattle.search_commands.specs.Demo.{Adding, adding, one_more}
 use Rattle.intake_commands.specs.Importing.{Intake, imported_line, intake, item_after, item_text, line_with, none_taken, state_with, taken_in, the_new}
-use Rattle.intake_commands.proofs.ByCase.{added_line, new_game, unless_ended, unless_not_added, unless_refusal}
+use Rattle.intake_commands.proofs.ByCase.{added_line, new_game, unless_not_added}
 use Rattle.pgn_read.specs.Items.{items_of}
 use Rattle.pgn_read.specs.declared.item.Item.{Item}
 use Rattle.pgn_read.specs.declared.item.Item.TheVariants.{Good, Bad}

@@ -23,6 +23,6 @@ is_by client (Some other) = other == client
 abbrev pub said_to : ℕ → List Said → List Said
 said_to client list = filter (λ said. is_by client said.client) list
 
--- The lines without the private ones that he does not say.
+-- The lines without the private ones that this client does not say.
 abbrev pub without_private : ℕ → List Tagged → List Tagged
 without_private client list = filter (λ t. is_by client t.client || not (is_private (order_kind t.task.order))) list

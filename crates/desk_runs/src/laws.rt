@@ -11,7 +11,7 @@ ghost use Rattle.script_text.specs.declared.command.Command.TheVariants.{Demo, I
 ghost use Rattle.shell_commands.specs.Refused.{IsError};
 ghost use Rattle.shell_state.specs.Slots.{Slot};
 
-/// A law: what is written to a client at a desk of four, whatever all of them say, is what would be written to him if the others said their
+/// A law: what is written to a client at a desk of four, whatever all of them say, is what would be written to it if the others said their
 /// public commands alone.
 pub fn clients_are_isolated()
     ensures isolated { (desk : Desk) → (list : List Tagged) → (client : ℕ) → desk.clients.tagged ≡ true → said_to client (desk_run desk list) ≡ said_to client (desk_run desk (without_private client list)) }

@@ -9,11 +9,10 @@ use Rattle.cell_core.specs.declared.man.Colour.{Colour}
 use Rattle.cell_core.specs.Board.{Men, same_men}
 use Rattle.cell_core.specs.Man.{same_colour}
 use Rattle.cell_core.proofs.Same.{same_colour-Decides, same_men-Decides}
+use Rattle.cell_core.specs.Steps.{blamed, ◌>>=◌}
 use Rattle.chess_laws.specs.Position.{start_setup}
 use Rattle.chess_laws.specs.declared.setup.Setup.{Setup}
-use Rattle.chess_text.specs.FieldReading.{◌>>=◌}
 use Rattle.chess_text.specs.declared.fault.SanFault.{SanFault}
-use Rattle.game_codec.specs.Steps.{blamed}
 use Rattle.game_tree.specs.Eco.{eco_read}
 use Rattle.eco_class.specs.Cutting.{lines_of, words_of}
 use Rattle.eco_class.specs.Table.{EndApart, Opening, ends_at, line_at}

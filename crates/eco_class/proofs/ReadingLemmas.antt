@@ -2,10 +2,10 @@
 use Rattle.std.proofs.Common.{◌≡◌, ℕ, ◌+◌, List, [], ◌∷◌, refl, sym, ap, ◌∙◌}
 use Rattle.std.specs.Prelude.{Result, Ok, Err}
 use Rattle.cell_core.specs.declared.step.Move.{Move}
+use Rattle.cell_core.specs.Steps.{◌>>=◌}
 use Rattle.chess_laws.specs.Step.{Step, stepped}
 use Rattle.chess_laws.specs.declared.setup.Setup.{Setup}
 use Rattle.chess_laws.proofs.Stepping.{Step-stepped}
-use Rattle.chess_text.specs.FieldReading.{◌>>=◌}
 use Rattle.chess_text.specs.SanAnswer.{san_answer}
 use Rattle.chess_text.specs.declared.fault.SanFault.{SanFault}
 use Rattle.eco_class.specs.Cutting.{lines_of, words_of}

@@ -1,4 +1,4 @@
--- What a table keeps of its lines. Only the model of a table and private functions cite these words.
+-- What a table keeps of its lines (this project's own). Only the model of a table and private functions cite these words.
 use Rattle.std.specs.Prelude.{◌≡◌, ◌≤◌, ℕ, List, All, length, map, sum}
 use Rattle.cell_core.specs.Board.{Men}
 use Rattle.cell_core.specs.Packed.{Packed, cells_of, men_of}

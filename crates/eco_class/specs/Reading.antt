@@ -2,13 +2,12 @@
 use Rattle.std.specs.Prelude.{ℕ, ◌+◌, ◌==◌, nat_le, if◌then◌else◌, List, [], ◌∷◌, ◌++◌, length, slice_index, Option, Some, None, Result, Ok, Err}
 use Rattle.std.specs.Option.{option_map_or}
 use Rattle.std.specs.Str.Lines.{strip_carriage_return}
+use Rattle.cell_core.specs.Steps.{blamed, ◌>>=◌}
 use Rattle.chess_laws.specs.Position.{start_setup}
 use Rattle.chess_laws.specs.Step.{stepped}
 use Rattle.chess_laws.specs.declared.setup.Setup.{Setup}
-use Rattle.chess_text.specs.FieldReading.{◌>>=◌}
 use Rattle.chess_text.specs.SanAnswer.{san_answer}
 use Rattle.chess_text.specs.declared.fault.SanFault.{SanFault}
-use Rattle.game_codec.specs.Steps.{blamed}
 use Rattle.game_tree.specs.Eco.{eco_read}
 use Rattle.eco_class.specs.Cutting.{lines_of, words_of}
 use Rattle.eco_class.specs.Table.{Opening, line_at}

@@ -31,7 +31,7 @@ code_at table board side = option_map (λ opening. opening.code) (find (ends_at 
 abbrev pub code_of : List Opening → Setup → Option ℕ
 code_of table p = code_at table p.board p.side
 
--- The code of the last of the first n positions of a main line on which a line of the table ends, or none where none does.
+-- The code of the last of the first n positions of a main line on which a line of the table ends, or none if none does.
 unfoldable pub last_code : List Opening → GameTree → ℕ → Option ℕ
 last_code table game zero = None
 last_code table game (suc k) = option_or (code_of table (position_at game k)) (last_code table game k)

@@ -4,8 +4,8 @@ ghost use Rattle.game_tree.specs.Game.{GameTree};
 ghost use Rattle.eco_class.specs.Reading.{table_of};
 ghost use Rattle.eco_class.specs.Table.{EndApart, IsLast, Opening, eco_of};
 
-/// A law: the code that is computed for a game is that of the last position of its main line on which a line of the table ends, and there
-/// is none exactly where none ends on any of these positions.
+/// A law: the code that is computed for a game is that of the last position of its main line on which a line of the
+/// table ends. There is no code if and only if no line ends on any of these positions.
 pub fn codes_are_of_last_positions()
     ensures last { (table : List Opening) (game : GameTree) → IsLast table game (eco_of table game) }
 {}

@@ -93,7 +93,7 @@ impl EcoTable {
         self.lines.len() as u32
     }
 
-    /// The code of the line that ends on this board with this side to move, or `None` where none does.
+    /// The code of the line that ends on this board with this side to move, or `None` if none does.
     pub fn code_at(&self, p: &PackedBoard) -> Option<u16>
         ensures code { result ≡ code_at self.now (men_of p.now.cells) p.now.side }
         ensures bounds { IfSome result (λ code. (1 ≤ code) × (code ≤ 65500)) }
@@ -106,11 +106,12 @@ impl EcoTable {
         }
     }
 
-    /// The code of the game of a record, or `None` where it has none: that of the line that ends on the board, with the same side to move,
-    /// of the last position of the main line on which one ends. The start is one of these positions. A record has fewer than 2^32 bytes.
+    /// Gives the code of the game of a record, or `None` if it has none. The code is that of the line that ends on the
+    /// board, with the same side to move, of the last position of the main line on which one ends. The start is one of
+    /// these positions. A record has fewer than 2^32 bytes.
     ///
-    /// No memory is taken. The walk ends where fewer men are left than at the end of each line, since men never come back. The fault comes
-    /// only where the bytes are no record.
+    /// No memory is taken. The walk ends when fewer men are left than at the end of each line, since men never come
+    /// back. Bytes that give a fault are no record.
     pub fn classify(&self, bytes: &[u8]) -> Result<Option<u16>, RecordFault>
         requires few { length bytes.now < 2 ^ 32 }
         ensures code { IfOk result (λ code. (tags : List Tag) (game : GameTree) → IsRecord bytes.now tags game → code ≡ eco_of self.now game) }
@@ -214,7 +215,7 @@ impl EcoTable {
         self.lines.get(key).copied()
     }
 
-    // Whether as many men are left as at the end of some line. Where they are not, none of the lines can follow.
+    // Whether as many men are left as at the end of some line. If they are not, none of the lines can follow.
     fn can_follow(&self, p: &Position) -> bool
         ensures over { OnFalse result (All (λ line. men_in p.now.board < men_in line.board) self.now) }
     {

@@ -16,7 +16,7 @@ use Rattle.shell_state.specs.Work.{Work, writing}
 use Rattle.shell_state.specs.Work.Price.{by_looks}
 use Rattle.shell_state.specs.declared.refusing.Refusal.TheVariants.{Full}
 
--- The new number of each game, or none where it is deleted.
+-- The new number of each game, or none if it is deleted.
 abbrev pub numbers_of : Base → List (Option ℕ)
 numbers_of base = numbers_from 0 (map (λ held. held.head.deleted) base.games)
 
@@ -43,8 +43,8 @@ abbrev pub compact_work : Work
 compact_work =
     record (writing compact_after compact_text (by_looks (λ looks plies. sum_by (λ look. look.len) (filter (λ look. not look.head.deleted) looks)))) { left = Some compacted }
 
--- What was done, whatever the files tell: the line says so and the records of the games that stay were copied, or it refuses that and what is kept
--- is as it was.
+-- What was done, whatever the files tell. The line says so and the records of the games that stay were copied, or the
+-- line refuses that and what is kept is as it was.
 abbrev pub DidCompact : Kept → Kept → Seen → Seen → List ℕ → Type 0
 DidCompact old new before after line =
     ((line ≡ compacted_line (length old.entries) (length new.entries)) × CopiesRecords old before after) ⊎ ((line ≡ refusal_line (Full File)) × (new ≡ old))

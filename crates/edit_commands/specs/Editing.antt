@@ -15,7 +15,7 @@ use Rattle.shell_state.specs.State.{State, with_base}
 use Rattle.shell_state.specs.Work.{Work, writing, quiet}
 use Rattle.shell_state.specs.Work.Price.{by_looks}
 
--- An edit of a game, where it is there, its line, and the command.
+-- An edit of a game, if it is there, its line, and the command.
 abbrev pub edit_work : (Base → Base) → List ℕ → ℕ → Work
 edit_work edit words game =
     quiet (λ s. if is_some (slice_get s.shared.base.games game) then with_base s (edit s.shared.base) else s)
@@ -43,8 +43,8 @@ tag_after s game edit = if is_some (untagged s game edit) then s else with_base 
 abbrev pub tag_text : State → ℕ → TagEdit → List ℕ
 tag_text s game edit = unwrap_or (untagged s game edit) (game_line (codes "tagged ") game)
 
--- What `tag` did, whatever the files tell: where its line says so, the tag was set in a game that was read, a record of one with the kept
--- signature; where it says another thing, what is kept is as it was.
+-- What `tag` did, whatever the files tell. If its line tells of a tag that was set, the tag was set in a game that was
+-- read, a record of one with the kept signature. With any other line, what is kept is as it was.
 pub record DidTag (game : ℕ) (edit : TagEdit) (old new : Kept) (before after : Seen) (line : List ℕ) : Type 0 where
   pub tagged : line ≡ game_line (codes "tagged ") game → (buffer : List ℕ) × IsTagged game edit old new before after buffer
   pub refused : (line ≡ game_line (codes "tagged ") game → ⊥) → new ≡ old

@@ -1,4 +1,4 @@
--- What becomes of a position index where the games get new numbers. Only private functions cite this.
+-- What becomes of a position index if the games get new numbers. Only private functions cite this.
 use Rattle.std.specs.Prelude.{ℕ, List, Option}
 use Rattle.game_filter.specs.Renumbering.{renumbered}
 use Rattle.pos_index.specs.Hits.{Index}

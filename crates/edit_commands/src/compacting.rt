@@ -19,8 +19,8 @@ use pos_index::PosIndex;
 use shell_state::{Halt, Machine, Refusal, refusal_line};
 use std::alloc::{AllocError, Global};
 
-/// compact, with the line for it given and not written. The games that are not deleted are left, and the filters, the index and the slots move
-/// with them.
+/// The command `compact`: takes the deleted games out, and gives its line, which is not written yet. The filters, the index
+/// and the slots move with the games that are left.
 pub fn compact_line<F: Files>(
     alloc: Global,
     machine: &mut Machine,

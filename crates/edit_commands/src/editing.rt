@@ -6,7 +6,7 @@ ghost use Rattle.shell_state.specs.Stands.{Fits, Quiet};
 use base_core::NoGame;
 use shell_state::{Line, Machine, number_line, unknown_game_line};
 
-/// delete G
+/// The command `delete G`: marks the game as deleted, and gives its line.
 pub fn delete(machine: &mut Machine, number: u64) -> Line
     requires fits { Fits machine.old }
     ensures quiet { Quiet machine.old (delete_work number) machine.new result.items }
@@ -21,7 +21,7 @@ pub fn delete(machine: &mut Machine, number: u64) -> Line
     number_line(b"deleted ", number)
 }
 
-/// undelete G
+/// The command `undelete G`: takes the mark of a deleted game away, and gives its line.
 pub fn undelete(machine: &mut Machine, number: u64) -> Line
     requires fits { Fits machine.old }
     ensures quiet { Quiet machine.old (undelete_work number) machine.new result.items }
@@ -36,7 +36,7 @@ pub fn undelete(machine: &mut Machine, number: u64) -> Line
     number_line(b"undeleted ", number)
 }
 
-/// mark G LETTER on, mark G LETTER off
+/// The command `mark G LETTER on`, or the same with `off`: sets a mark of the game, or takes it away, and gives the line.
 pub fn mark(machine: &mut Machine, number: u64, bit: u8, on: bool) -> Line
     requires fits { Fits machine.old }
     requires mark { bit < 18 }

@@ -16,7 +16,7 @@ use base_files::{Files, Sink, Stop};
 use shell_state::{Halt, Machine, write_line};
 use std::alloc::{AllocError, Global};
 
-/// save
+/// The command `save`: makes the files mean the base, and writes its line.
 #[tactic(auto, using(shell_state::proofs::Causing::unsaid_without))]
 pub fn save<F: Files, K: Sink>(
     alloc: Global,
@@ -63,7 +63,7 @@ fn save_files<F: Files>(alloc: Global, machine: &mut Machine, files: &mut F) -> 
     Ok(())
 }
 
-// How the command ends where the base is not saved.
+// How the command ends if the base is not saved.
 fn unsaved_halt(error: SaveError) -> Halt
     ensures halt { result ≡ unsaved_halt error }
 {

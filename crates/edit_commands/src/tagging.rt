@@ -14,7 +14,7 @@ use game_tree::TagEdit;
 use shell_state::{Halt, Machine, game_line, no_game_line, refused_line};
 use std::alloc::Global;
 
-/// tag G NAME VALUE, with the line for it given and not written.
+/// The command `tag G NAME VALUE`: sets a tag of the game, and gives its line, which is not written yet.
 pub fn tag_line<F: Files>(
     alloc: Global,
     machine: &mut Machine,

@@ -10,14 +10,15 @@ use Rattle.shell_state.specs.Work.{Work, seated}
 abbrev pub filtering : (List (Option ℕ) → List (Option ℕ)) → Work
 filtering change = seated (λ seat. record seat { filter = change seat.filter }) (λ seat. filter_line (change seat.filter))
 
--- keep NAME, where a filter of this name is kept or fewer than eight are kept.
+-- keep NAME, if a filter of this name is kept or fewer than eight are kept.
 abbrev pub keep_line : List SavedFilter → List ℕ → List ℕ
 keep_line saved name = if can_keep saved name then name_line (codes "kept ") name else line_of (codes "error: full filters")
 
 abbrev pub keep_work : List ℕ → Work
 keep_work name = seated (λ seat. record seat { saved = kept_in seat.saved name seat.filter }) (λ seat. keep_line seat.saved name)
 
--- use NAME, and NAME, or NAME: the filter joined with the one of this name, where there is one; `use` takes that one in its place.
+-- use NAME, and NAME, or NAME: the filter joined with the one of this name, if there is one; `use` takes that one in
+-- its place.
 abbrev pub joined_in : (List (Option ℕ) → List (Option ℕ) → List (Option ℕ)) → List ℕ → Seat → List (Option ℕ)
 joined_in join name seat = joined_with join seat.filter (saved_named seat.saved name)
 

@@ -11,7 +11,7 @@ use game_filter::Filter;
 use shell_state::{Line, Machine, filter_line, line_of, name_line};
 use std::alloc::{AllocError, Global};
 
-/// reset
+/// The command `reset`: takes all games into the filter, and gives its line.
 pub fn reset(machine: &mut Machine) -> Line
     requires fits { Fits machine.old }
     ensures quiet { Quiet machine.old (filtering (λ plies. all_in (length plies))) machine.new result.items }
@@ -20,7 +20,7 @@ pub fn reset(machine: &mut Machine) -> Line
     filter_line(&machine.seat.filter)
 }
 
-/// clear
+/// The command `clear`: takes all games out of the filter, and gives its line.
 pub fn clear(machine: &mut Machine) -> Line
     requires fits { Fits machine.old }
     ensures quiet { Quiet machine.old (filtering (λ plies. all_out (length plies))) machine.new result.items }
@@ -29,7 +29,7 @@ pub fn clear(machine: &mut Machine) -> Line
     filter_line(&machine.seat.filter)
 }
 
-/// negate
+/// The command `negate`: makes the games that are out the filter, and gives its line.
 pub fn negate(machine: &mut Machine) -> Line
     requires fits { Fits machine.old }
     ensures quiet { Quiet machine.old (filtering negated) machine.new result.items }
@@ -38,7 +38,7 @@ pub fn negate(machine: &mut Machine) -> Line
     filter_line(&machine.seat.filter)
 }
 
-/// restrict A B
+/// The command `restrict A B`: keeps in the filter the games from the first number to the second, and gives its line.
 pub fn restrict(machine: &mut Machine, first: u64, last: u64) -> Line
     requires fits { Fits machine.old }
     ensures quiet { Quiet machine.old (filtering (restricted first last)) machine.new result.items }
@@ -57,7 +57,7 @@ fn restrict_to(filter: &mut Filter, first: u64, last: u64)
     filter.restrict(first.min(games) as u32, last.min(games) as u32);
 }
 
-/// keep NAME
+/// The command `keep NAME`: keeps a copy of the filter under this name, and gives its line.
 pub fn keep_filter(alloc: Global, machine: &mut Machine, name: &Text) -> Result<Vec<u8>, AllocError>
     requires fits { Fits machine.old }
     requires short { length name.now ≤ 32 }
@@ -70,7 +70,7 @@ pub fn keep_filter(alloc: Global, machine: &mut Machine, name: &Text) -> Result<
     Vec::from_slice(alloc, line.as_slice())
 }
 
-/// use NAME
+/// The command `use NAME`: takes the kept filter of this name in place of the filter, and gives its line.
 pub fn take(machine: &mut Machine, name: &Text) -> Line
     requires fits { Fits machine.old }
     requires short { length name.now ≤ 32 }
@@ -86,7 +86,7 @@ pub fn take(machine: &mut Machine, name: &Text) -> Line
     filter_line(&machine.seat.filter)
 }
 
-/// and NAME
+/// The command `and NAME`: keeps the games that are in the kept filter of this name too, and gives its line.
 pub fn and(machine: &mut Machine, name: &Text) -> Line
     requires fits { Fits machine.old }
     requires short { length name.now ≤ 32 }
@@ -102,7 +102,7 @@ pub fn and(machine: &mut Machine, name: &Text) -> Line
     filter_line(&machine.seat.filter)
 }
 
-/// or NAME
+/// The command `or NAME`: adds the games of the kept filter of this name, and gives its line.
 pub fn or(machine: &mut Machine, name: &Text) -> Line
     requires fits { Fits machine.old }
     requires short { length name.now ≤ 32 }
@@ -118,7 +118,7 @@ pub fn or(machine: &mut Machine, name: &Text) -> Line
     filter_line(&machine.seat.filter)
 }
 
-/// drop NAME
+/// The command `drop NAME`: forgets the kept filter of this name, and gives its line.
 pub fn drop_filter(machine: &mut Machine, name: &Text) -> Line
     requires fits { Fits machine.old }
     requires short { length name.now ≤ 32 }

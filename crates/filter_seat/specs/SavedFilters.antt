@@ -31,7 +31,7 @@ kept_to_start game = kept_with (to_start game)
 abbrev pub most_saved : ℕ
 most_saved = 8
 
--- The place of the filter of a name, or none where no filter of that name is kept.
+-- The place of the filter of a name, or none if no filter of that name is kept.
 abbrev pub place_of : List SavedFilter → List ℕ → Option ℕ
 place_of saved name = position (λ kept. bytes_eq kept.name name) saved
 
@@ -47,7 +47,7 @@ is_kept saved name = is_some (place_of saved name)
 abbrev pub can_keep : List SavedFilter → List ℕ → Bool
 can_keep saved name = is_kept saved name || nat_lt (length saved) most_saved
 
--- The filters after one was kept under this name, where there was room for it.
+-- The filters after one was kept under this name, if there was room for it.
 abbrev pub kept_at : List SavedFilter → SavedFilter → Option ℕ → List SavedFilter
 kept_at saved new (Some place) = slice_set saved place new
 kept_at saved new None = if nat_lt (length saved) most_saved then saved ++ new ∷ [] else saved
@@ -59,6 +59,6 @@ kept_in saved name plies = kept_at saved (record { name = name; plies = plies })
 unfoldable pub dropped_in : List SavedFilter → List ℕ → List SavedFilter
 dropped_in saved name = option_map_or (λ place. take place saved ++ drop (place + 1) saved) (place_of saved name) saved
 
--- A filter joined with the one of a name, where there is one.
+-- A filter joined with the one of a name, if there is one.
 abbrev pub joined_with : (List (Option ℕ) → List (Option ℕ) → List (Option ℕ)) → List (Option ℕ) → Option (List (Option ℕ)) → List (Option ℕ)
 joined_with join own other = option_map_or (join own) other own

@@ -1,4 +1,4 @@
--- What one user of an open base has of his own. This project's own.
+-- What one user of an open base has alone. This project's own.
 use Rattle.std.specs.Prelude.{◌≡◌, ℕ, List, [], ◌∷◌, ◌++◌, Option, None, Some, All, length, map}
 use Rattle.game_filter.specs.Filter.{all_in}
 use Rattle.filter_seat.specs.SavedFilters.{kept_with}
@@ -22,7 +22,7 @@ first_seat games = record { filter = all_in games; saved = [] }
 abbrev pub seat_with_one : Seat → Seat
 seat_with_one seat = record { filter = seat.filter ++ Some 0 ∷ []; saved = map (kept_with (λ plies. plies ++ None ∷ [])) seat.saved }
 
--- With each of its filters changed: where a game was replaced, it is in at ply 0 in each that has it; where games have new numbers, the
+-- With each of its filters changed: if a game was replaced, it is in at ply 0 in each that has it; if games have new numbers, the
 -- entries move with them.
 abbrev pub each_filter : (List (Option ℕ) → List (Option ℕ)) → Seat → Seat
 each_filter change seat = record { filter = change seat.filter; saved = map (kept_with change) seat.saved }

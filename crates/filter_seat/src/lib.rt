@@ -1,4 +1,5 @@
-//! Filters that are kept by name, beside the current one: what one user of an open base has of his own. Nothing here knows a base.
+//! Filters that are kept by name, beside the current one: what one user of an open base has alone. Nothing here knows a
+//! base.
 #![tactic(auto)]
 
 mod saved;

@@ -34,7 +34,8 @@ pub fn named<'a>(saved: &'a [SavedFilter], name: &[u8]) -> Option<&'a Filter>
     Some(&saved[place].plies)
 }
 
-/// Keeps a copy of the filter under a name, in the place of one of that name or as one more; `false` where there is no room.
+/// Keeps a copy of the filter under a name, in the place of one of that name or as one more. It answers `false` if
+/// there is no room.
 pub fn keep(
     alloc: Global,
     saved: &mut Vec<SavedFilter>,
@@ -102,7 +103,7 @@ fn put_one_at_start(kept: &mut SavedFilter, i: u32)
     to_start(&mut kept.plies, i);
 }
 
-// Puts a game at its start where the filter has it.
+// Puts a game at its start if the filter has it.
 fn to_start(filter: &mut Filter, i: u32)
     requires there { i < length filter.old }
     ensures put { filter.new ≡ to_start i filter.old }
@@ -139,7 +140,7 @@ fn renumber_one(kept: &mut SavedFilter, renumbering: &Renumbering)
     kept.plies.renumber(renumbering);
 }
 
-/// Forgets the filter of a name; `false` where there is none.
+/// Forgets the filter of a name. It answers `false` if there is none.
 #[tactic(auto, unfolding(crate::specs::SavedFilters::dropped_in))]
 pub fn forget(saved: &mut Vec<SavedFilter>, name: &[u8]) -> bool
     ensures forgotten { result ≡ is_kept saved.old.items name.now }
@@ -155,7 +156,7 @@ pub fn forget(saved: &mut Vec<SavedFilter>, name: &[u8]) -> bool
     }
 }
 
-/// Puts the filter of a name in the place of this one; `false` where there is none.
+/// Puts the filter of a name in the place of this one. It answers `false` if there is none.
 #[tactic(auto, using(crate::proofs::SavedLaws::length_joined))]
 pub fn take_from(filter: &mut Filter, saved: &[SavedFilter], name: &[u8]) -> bool
     requires same_games { All (λ kept. length kept.plies ≡ length filter.old) saved.now }
@@ -170,7 +171,7 @@ pub fn take_from(filter: &mut Filter, saved: &[SavedFilter], name: &[u8]) -> boo
     true
 }
 
-/// Keeps the games that are in this filter and in the one of a name; `false` where there is none.
+/// Keeps the games that are in this filter and in the one of a name. It answers `false` if there is none.
 #[tactic(auto, using(crate::proofs::SavedLaws::length_joined))]
 pub fn meet(filter: &mut Filter, saved: &[SavedFilter], name: &[u8]) -> bool
     requires same_games { All (λ kept. length kept.plies ≡ length filter.old) saved.now }
@@ -185,7 +186,7 @@ pub fn meet(filter: &mut Filter, saved: &[SavedFilter], name: &[u8]) -> bool
     true
 }
 
-/// Adds the games of the filter of a name; `false` where there is none.
+/// Adds the games of the filter of a name. It answers `false` if there is none.
 #[tactic(auto, using(crate::proofs::SavedLaws::length_joined))]
 pub fn unite(filter: &mut Filter, saved: &[SavedFilter], name: &[u8]) -> bool
     requires same_games { All (λ kept. length kept.plies ≡ length filter.old) saved.now }

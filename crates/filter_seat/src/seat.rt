@@ -1,4 +1,4 @@
-//! What one user of an open base has of his own.
+//! What one user of an open base has alone.
 use crate::saved::SavedFilter;
 use game_filter::Filter;
 

@@ -1,13 +1,12 @@
 -- What bytes are as a record, as an answer that is computed and in words.
-use Rattle.std.proofs.Common.{◌≡◌, ℕ, zero, suc, ◌+◌, ◌<◌, ◌≤◌, ◌==◌, ◌%◌, ◌⊎◌, inl, inr, ◌≢◌, true, false, nat_le, nat_lt, List, [], ◌∷◌, ◌++◌, Option, Some, None, Result, Ok, Err, length, drop, take, refl, sym, ap, subst, ◌∙◌, arith, append_assoc, length-append, length-drop}
-use Rattle.std.proofs.Math.Seq.{take-add, take-length}
+use Rattle.std.proofs.Common.{◌≡◌, ℕ, zero, suc, ◌+◌, ◌<◌, ◌≤◌, ◌==◌, ◌%◌, ◌⊎◌, inl, inr, ◌≢◌, true, false, nat_le, nat_lt, List, [], ◌∷◌, ◌++◌, Option, Some, None, Result, Ok, Err, length, drop, refl, sym, ap, subst, ◌∙◌, arith, append_assoc, append-nil, length-append}
 use Rattle.std.proofs.lemmas.Bool.{and_parts, cases_Bool, eqb-true, eqb-false, leb-true, ltb-true, ltb-false}
 use Rattle.std.proofs.lemmas.List.Elements.{All-nil, All-cons}
 use Rattle.cell_core.specs.Text.{IsZeroFree}
 use Rattle.cell_core.specs.declared.step.Move.{Move}
+use Rattle.cell_core.specs.Steps.{blamed, ◌>>=◌}
 use Rattle.chess_laws.specs.declared.setup.Setup.{Setup}
 use Rattle.chess_text.specs.FenAnswer.{fen_answer}
-use Rattle.chess_text.specs.FieldReading.{◌>>=◌}
 use Rattle.chess_text.specs.declared.fault.FenFault.{FenFault}
 use Rattle.game_tree.specs.Game.{GameTree}
 use Rattle.game_tree.specs.Movetext.{Movetext, end, move, nag, comment, variation}
@@ -22,7 +21,6 @@ use Rattle.game_codec.specs.Place.{Place, Takes, FaultAt, after_comment, after_m
 use Rattle.game_codec.specs.Record.{IsRecord, IsSomeRecord, IsSpelled}
 use Rattle.game_codec.specs.RecordAnswer.{Broken, game_at, moves_at, place_of, record_answer, start_at, tags_at, text_at, texts_at, with_texts}
 use Rattle.game_codec.specs.Start.{BeginsStart, BreaksStart}
-use Rattle.game_codec.specs.Steps.{blamed}
 use Rattle.game_codec.specs.TagReading.{BeginsTags, BreaksTags, tag_at}
 use Rattle.game_codec.specs.Texts.{AreTexts, BreaksTexts, TextFault, ended, texts_of}
 use Rattle.game_codec.specs.Token.{Token, Play, Nag, Comment, Open, Close, End}
@@ -35,6 +33,7 @@ use Rattle.game_codec.proofs.SameFault.{SameFault}
 use Rattle.game_codec.proofs.SameFaultLaws.{SameFault-same, SameFault-short}
 use Rattle.game_codec.proofs.ShortLaws.{Takes-longer}
 use Rattle.game_codec.proofs.TagReadingLaws.{end-tag_at, tag_at-shorter}
+use Rattle.game_codec.proofs.TotalLaws.{none_left}
 
 -- The one holds of what was read, or the other of the fault.
 abbrev Says : {A E : Type 0} → (A → Type 0) → (E → Type 0) → Result A E → Type 0
@@ -70,75 +69,72 @@ module _ (p : Place) (byte : ℕ) (later : List ℕ) where
   begins_with : (n : ℕ) → (byte == n) ≡ true → byte ∷ later ≡ n ∷ later
   begins_with n is = ap (λ (b : ℕ). b ∷ later) (eqb-true byte n is)
 
-  move_by : is_mark byte ≡ false → (r : Result (Move × ℕ) MoveFault) → decoded p.here (byte ∷ later) ≡ r → IsItem p (byte ∷ later) (token_at p (byte ∷ later))
+  none_of_them : (byte == 11) ≡ false → (byte == 12) ≡ false → (byte == 13) ≡ false → (byte == 14) ≡ false → (byte == 15) ≡ false → is_mark byte ≡ false
+  none_of_them a b c d e = elim (cases_Bool (is_mark byte)) [
+    | inr free ↦ free
+    | inl mark ↦
+        let bounds = and_parts (nat_le 11 byte) (nat_le byte 15) mark in
+        let low = leb-true 11 byte bounds.0 in
+        let high = leb-true byte 15 bounds.1 in
+        let not_a = eqb-false byte 11 a in
+        let not_b = eqb-false byte 12 b in
+        let not_c = eqb-false byte 13 c in
+        let not_d = eqb-false byte 14 d in
+        let not_e = eqb-false byte 15 e in
+        absurd (omega arith)
+  ]
+
+  move_by : (byte == 11) ≡ false → (byte == 12) ≡ false → (byte == 13) ≡ false → (byte == 14) ≡ false → (byte == 15) ≡ false
+      → (r : Result (Move × ℕ) MoveFault) → decoded p.here (byte ∷ later) ≡ r → IsItem p (byte ∷ later) (token_at p (byte ∷ later))
   unfolding token_at
-  move_by free (Ok d) is =
-      by_item p (byte ∷ later) (Ok (Play d.0, drop d.1 (byte ∷ later))) (rw (free, is) refl) ((byte, later, refl, free), (d.1, is, refl))
-  move_by free (Err fault) is =
-      by_item p (byte ∷ later) (Err (what.Move fault)) (rw (free, is) refl) ((byte, later, refl, free), is)
+  move_by a b c d e (Ok m) is =
+      by_item p (byte ∷ later) (Ok (Play m.0, drop m.1 (byte ∷ later))) (rw (a, b, c, d, e, is) refl)
+      ((byte, later, refl, none_of_them a b c d e), (m.1, is, refl))
+  move_by a b c d e (Err fault) is =
+      by_item p (byte ∷ later) (Err (what.Move fault)) (rw (a, b, c, d, e, is) refl) ((byte, later, refl, none_of_them a b c d e), is)
 
   token_says : IsItem p (byte ∷ later) (token_at p (byte ∷ later))
   unfolding token_at
-  token_says = elim (cases_Bool (is_mark byte)) [
-    | inr free ↦ move_by free (decoded p.here (byte ∷ later)) refl
-    | inl mark ↦ elim (cases_Bool (byte == 12)) [
+  token_says = elim (cases_Bool (byte == 11)) [
+    | inl is ↦ elim (cases_Bool p.has_move) [
+      | inl some ↦ by_item p (byte ∷ later) (nag_at later) (rw (is, some) refl) (nag_says p byte later (eqb-true byte 11 is) some)
+      | inr none ↦ by_item p (byte ∷ later) (Err what.Mark) (rw (is, none) refl) (inl (none, inl (eqb-true byte 11 is)))
+    ]
+    | inr a ↦ elim (cases_Bool (byte == 12)) [
       | inl is ↦ elim (cases_Bool p.has_comment) [
-        | inl two ↦ by_item p (byte ∷ later) (Err what.TwoComments) (rw (mark, is, two) refl) (two, (later, begins_with 12 is))
-        | inr one ↦ by_item p (byte ∷ later) (Ok (Comment, later)) (rw (mark, is, one) refl) (one, begins_with 12 is)
+        | inl two ↦ by_item p (byte ∷ later) (Err what.TwoComments) (rw (a, is, two) refl) (two, (later, begins_with 12 is))
+        | inr one ↦ by_item p (byte ∷ later) (Ok (Comment, later)) (rw (a, is, one) refl) (one, begins_with 12 is)
       ]
-      | inr no_12 ↦ elim (cases_Bool (byte == 14)) [
-        | inl is ↦ elim (cases_Bool (p.depth == 0)) [
-          | inl top ↦
-              by_item p (byte ∷ later) (Err what.Mark) (rw (mark, no_12, is, top) refl) (inr (inl (eqb-true p.depth 0 top, eqb-true byte 14 is)))
-          | inr deep ↦
-              let some = eqb-false p.depth 0 deep in
-              by_item p (byte ∷ later) (Ok (Close, later)) (rw (mark, no_12, is, deep) refl) (omega arith, begins_with 14 is)
-        ]
-        | inr no_14 ↦ elim (cases_Bool (byte == 15)) [
-          | inl is ↦ elim (cases_Bool (p.depth == 0)) [
-            | inl top ↦ by_item p (byte ∷ later) (Ok (End, later)) (rw (mark, no_12, no_14, is, top) refl) (eqb-true p.depth 0 top, begins_with 15 is)
-            | inr deep ↦
-                let some = eqb-false p.depth 0 deep in
-                by_item p (byte ∷ later) (Err what.Mark) (rw (mark, no_12, no_14, is, deep) refl) (inr (inr (omega arith, eqb-true byte 15 is)))
+      | inr b ↦ elim (cases_Bool (byte == 13)) [
+        | inl is ↦ elim (cases_Bool p.has_move) [
+          | inl some ↦ elim (cases_Bool (nat_lt p.depth 200)) [
+            | inl room ↦
+                by_item p (byte ∷ later) (Ok (Open, later)) (rw (a, b, is, some, room) refl) (some, ltb-true p.depth 200 room, begins_with 13 is)
+            | inr full ↦
+                by_item p (byte ∷ later) (Err what.Depth) (rw (a, b, is, some, full) refl) (some, (ltb-false p.depth 200 full, (later, begins_with 13 is)))
           ]
-          | inr no_15 ↦ elim (cases_Bool (byte == 11)) [
-            | inl is ↦ elim (cases_Bool p.has_move) [
-              | inl some ↦
-                  by_item p (byte ∷ later) (nag_at later) (rw (mark, no_12, no_14, no_15, some, is) refl)
-                  (nag_says p byte later (eqb-true byte 11 is) some)
-              | inr none ↦
-                  by_item p (byte ∷ later) (Err what.Mark) (rw (mark, no_12, no_14, no_15, none) refl) (inl (none, inl (eqb-true byte 11 is)))
+          | inr none ↦ by_item p (byte ∷ later) (Err what.Mark) (rw (a, b, is, none) refl) (inl (none, inr (eqb-true byte 13 is)))
+        ]
+        | inr c ↦ elim (cases_Bool (byte == 14)) [
+          | inl is ↦ elim (cases_Bool (nat_lt 0 p.depth)) [
+            | inl deep ↦ by_item p (byte ∷ later) (Ok (Close, later)) (rw (a, b, c, is, deep) refl) (ltb-true 0 p.depth deep, begins_with 14 is)
+            | inr top ↦
+                let none = ltb-false 0 p.depth top in
+                by_item p (byte ∷ later) (Err what.Mark) (rw (a, b, c, is, top) refl) (inr (inl (omega arith, eqb-true byte 14 is)))
+          ]
+          | inr d ↦ elim (cases_Bool (byte == 15)) [
+            | inl is ↦ elim (cases_Bool (p.depth == 0)) [
+              | inl top ↦ by_item p (byte ∷ later) (Ok (End, later)) (rw (a, b, c, d, is, top) refl) (eqb-true p.depth 0 top, begins_with 15 is)
+              | inr deep ↦
+                  let some = eqb-false p.depth 0 deep in
+                  by_item p (byte ∷ later) (Err what.Mark) (rw (a, b, c, d, is, deep) refl) (inr (inr (omega arith, eqb-true byte 15 is)))
             ]
-            | inr no_11 ↦
-                let last : byte ≡ 13 = is_13 mark no_11 no_12 no_14 no_15 in
-                let front : byte ∷ later ≡ 13 ∷ later = ap (λ (b : ℕ). b ∷ later) last in
-                elim (cases_Bool p.has_move) [
-                  | inl some ↦ elim (cases_Bool (nat_lt p.depth 200)) [
-                    | inl room ↦
-                        by_item p (byte ∷ later) (Ok (Open, later)) (rw (mark, no_12, no_14, no_15, some, no_11, room) refl)
-                        (some, ltb-true p.depth 200 room, front)
-                    | inr full ↦
-                        by_item p (byte ∷ later) (Err what.Depth) (rw (mark, no_12, no_14, no_15, some, no_11, full) refl)
-                        (some, (ltb-false p.depth 200 full, (later, front)))
-                  ]
-                  | inr none ↦ by_item p (byte ∷ later) (Err what.Mark) (rw (mark, no_12, no_14, no_15, none) refl) (inl (none, inr last))
-                ]
+            | inr e ↦ move_by a b c d e (decoded p.here (byte ∷ later)) refl
           ]
         ]
       ]
     ]
   ]
-    where
-      is_13 : is_mark byte ≡ true → (byte == 11) ≡ false → (byte == 12) ≡ false → (byte == 14) ≡ false → (byte == 15) ≡ false → byte ≡ 13
-      is_13 mark a b c d =
-          let bounds = and_parts (nat_le 11 byte) (nat_le byte 15) mark in
-          let low = leb-true 11 byte bounds.0 in
-          let high = leb-true byte 15 bounds.1 in
-          let not_a = eqb-false byte 11 a in
-          let not_b = eqb-false byte 12 b in
-          let not_c = eqb-false byte 14 c in
-          let not_d = eqb-false byte 15 d in
-          omega arith
 
 item_says : (p : Place) (bytes : List ℕ) → IsItem p bytes (token_at p bytes)
 unfolding token_at
@@ -353,7 +349,7 @@ texts_say (suc due) bytes =
 
 -- The movetext with its texts
 
-with_spells : (s : Movetext) (texts : List (List ℕ)) (p : Place) (bytes rest : List ℕ) → SpellsMoves p s bytes rest → SpellsMoves p (with_texts texts s) bytes rest
+with_spells : (s : Movetext) (texts : List (List ℕ)) (p : Place) (bytes rest : List ℕ) → SpellsMoves p s bytes rest → SpellsMoves p (with_texts s texts).0 bytes rest
 with_spells end texts p bytes rest spells = spells
 with_spells (move m s) texts p bytes rest spells = (spells.0, spells.1, with_spells s texts (after_move p m) spells.0 rest spells.2)
 with_spells (nag n s) texts p bytes rest spells = (spells.0, spells.1, with_spells s texts p spells.0 rest spells.2)
@@ -365,29 +361,35 @@ with_spells (variation inner s) texts p bytes rest spells = (
   (
     spells.2.0,
     with_spells inner texts (variation_of p) spells.0 spells.2.0 spells.2.1,
-    with_spells s (drop (length (texts_of inner)) texts) p spells.2.0 rest spells.2.2,
+    with_spells s (with_texts inner texts).1 p spells.2.0 rest spells.2.2,
   ),
 )
 
-with_are : (s : Movetext) (texts : List (List ℕ)) → length (texts_of s) ≤ length texts → texts_of (with_texts texts s) ≡ take (length (texts_of s)) texts
-with_are end texts fits = refl
+with_are : (s : Movetext) (texts : List (List ℕ)) → length (texts_of s) ≤ length texts
+    → (texts_of (with_texts s texts).0 ++ (with_texts s texts).1 ≡ texts) × (length (texts_of (with_texts s texts).0) ≡ length (texts_of s))
+with_are end texts fits = (refl, refl)
 with_are (move m s) texts fits = with_are s texts fits
 with_are (nag n s) texts fits = with_are s texts fits
 with_are (comment text s) [] fits = absurd (omega (arith, fits))
-with_are (comment text s) (first ∷ texts) fits = ap (λ (ts : List (List ℕ)). first ∷ ts) (with_are s texts (omega (arith, fits)))
+with_are (comment text s) (first ∷ texts) fits =
+    let later = with_are s texts (omega (arith, fits)) in (ap (λ (ts : List (List ℕ)). first ∷ ts) later.0, ap suc later.1)
 with_are (variation inner s) texts fits =
-    let size = length-append (texts_of inner) (texts_of s) in
-    let n = length (texts_of inner) in
-    let left = length-drop n texts in
-    let one = with_are inner texts (omega (arith, fits, size)) in
-    let other = with_are s (drop n texts) (omega (arith, fits, size, left)) in
-    ap (λ (ts : List (List ℕ)). ts ++ texts_of (with_texts (drop n texts) s)) one
-    ∙ ap (λ (ts : List (List ℕ)). take n texts ++ ts) other
-    ∙ sym (take-add n (length (texts_of s)) texts)
-    ∙ ap (λ (k : ℕ). take k texts) (sym size)
+    let within = with_texts inner texts in
+    let one = with_are inner texts (omega (arith, fits, length-append (texts_of inner) (texts_of s))) in
+    let both = length-append (texts_of inner) (texts_of s) in
+    let all = length-append (texts_of within.0) within.1 in
+    let whole = ap (λ (ts : List (List ℕ)). length ts) one.0 in
+    let later = with_texts s within.1 in
+    let other = with_are s within.1 (omega (arith, fits, both, all, whole, one.1)) in (
+      append_assoc (texts_of within.0) (texts_of later.0) later.1 ∙ ap (λ (ts : List (List ℕ)). texts_of within.0 ++ ts) other.0 ∙ one.0,
+      omega (arith, both, one.1, length-append (texts_of within.0) (texts_of later.0), other.1),
+    )
 
-with_all : (s : Movetext) (texts : List (List ℕ)) → length texts ≡ length (texts_of s) → texts_of (with_texts texts s) ≡ texts
-with_all s texts size = with_are s texts (omega (arith, size)) ∙ ap (λ (k : ℕ). take k texts) (sym size) ∙ take-length texts
+with_all : (s : Movetext) (texts : List (List ℕ)) → length texts ≡ length (texts_of s) → texts_of (with_texts s texts).0 ≡ texts
+with_all s texts size =
+    let are = with_are s texts (omega (arith, size)) in
+    let left = none_left (texts_of (with_texts s texts).0) (with_texts s texts).1 (ap length are.0 ∙ size ∙ sym are.1) in
+    sym (append-nil (texts_of (with_texts s texts).0)) ∙ ap (λ (ts : List (List ℕ)). texts_of (with_texts s texts).0 ++ ts) (sym left) ∙ are.0
 
 -- The whole
 
@@ -451,7 +453,7 @@ game_says bytes =
     (λ texts spelled. record {
       all_tags = tags.0;
       start = start.0;
-      movetext = with_texts texts moves.0;
+      movetext = (with_texts moves.0 texts).0;
       behind_tags = tags.1;
       behind_start = start.1;
       behind_moves = moves.1;

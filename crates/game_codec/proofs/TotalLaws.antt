@@ -282,7 +282,7 @@ deal (variation inner s) texts fits =
       same = λ t. ap (λ (x : Tally). said x on.movetext) (within.same (added t Open)) ∙ on.same (said (added t Open) inner);
     }
 
-none_left : (a b : List (List ℕ)) → length (a ++ b) ≡ length a → b ≡ []
+pub none_left : (a b : List (List ℕ)) → length (a ++ b) ≡ length a → b ≡ []
 none_left a [] e = refl
 none_left a (x ∷ b) e = absurd (omega (arith, e, length-append a (x ∷ b)))
 

@@ -2,8 +2,8 @@
 use Rattle.std.specs.Prelude.{ℕ, Bool, List}
 use Rattle.chess_laws.specs.declared.setup.Setup.{Setup}
 
--- The bytes that the walk goes over, how many moves it gave, and of the line in which it stands the position, the number of
--- moves that led there from the game's start, and whether it is the main line.
+-- The bytes that the walk goes over, and how many moves it gave. Of the line in which it stands it has the position,
+-- the number of moves that led there from the game's start, and whether it is the main line.
 pub record AllWalked : Type 0 where
   pub bytes : List ℕ
   pub given : ℕ

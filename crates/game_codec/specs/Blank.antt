@@ -1,4 +1,4 @@
--- The line that stands where none is kept. No public contract cites this word.
+-- The line that stands if none is kept. No public contract cites this word.
 use Rattle.game_codec.specs.Start.{standard_start}
 use Rattle.game_codec.specs.declared.all_walk.OpenLine.{OpenLine}
 

@@ -1,4 +1,4 @@
--- The texts of a record where their number alone is known. No public contract cites these words.
+-- The texts of a record if their number alone is known. No public contract cites these words.
 use Rattle.std.specs.Prelude.{◌≡◌, ℕ, suc, List, [], ◌∷◌, length}
 use Rattle.game_codec.specs.Texts.{AreTexts}
 

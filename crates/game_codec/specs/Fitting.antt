@@ -1,4 +1,4 @@
--- Which items of a record may follow where a tree is built. No public contract cites these words.
+-- Which items of a record may follow when a tree is built. No public contract cites these words.
 use Rattle.game_tree.specs.Item as item
 use Rattle.game_tree.specs.Building.{Building, MayStand}
 use Rattle.game_codec.specs.Token.{Token, Play, Nag, Comment, Open, Close, End}

@@ -25,7 +25,7 @@ pub record IsFlat (bytes : List ℕ) (all_tags : List Tag) (start : Numbered) (t
   pub then_texts : AreTexts behind_moves texts
   pub count : length texts ≡ comments_in tokens
 
--- What is read: these tags and this game, which is what the items mean where they are those of a movetext.
+-- What is read: these tags and this game, which is what the items mean if they are those of a movetext.
 pub record IsRead (bytes : List ℕ) (tags : List Tag) (game : GameTree) : Type 0 where
   pub all_tags : List Tag
   pub start : Numbered

@@ -2,7 +2,6 @@ pub mod TagSpelling
 pub mod TagReading
 pub mod TagParts
 pub mod Start
-pub mod Steps
 pub mod Token
 pub mod Place
 pub mod Moves

@@ -1,5 +1,5 @@
--- The moves of a record: which bytes spell the items of a game in the order in which they are written, each variation where
--- it stands.
+-- The moves of a record (this project's own, after Scid's format): which bytes spell the items of a game in the order
+-- in which they are written, each variation where it stands.
 use Rattle.std.specs.Prelude.{◌≡◌, ℕ, List}
 use Rattle.cell_core.specs.declared.step.Move.{Move}
 use Rattle.game_tree.specs.Movetext.{Movetext, end, move, nag, comment, variation}

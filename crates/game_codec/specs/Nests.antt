@@ -36,7 +36,7 @@ IsCalm (byte ∷ later) = Hangs byte → ⊥
 abbrev pub IsCalmBehind : List ℕ → Type 0
 IsCalmBehind bytes = IsCalm (drop 1 bytes) × IsCalm (drop 2 bytes)
 
--- The code's place is this one. Where nothing hangs on the last move the code does not keep the position before it.
+-- The code's place is this one. If nothing hangs on the last move, the code does not keep the position before it.
 abbrev pub IsKept : Place → Place → List ℕ → Type 0
 IsKept p code bytes = (code ≡ p) ⊎ ((code ≡ with_before code.before p) × IsCalm bytes)
 

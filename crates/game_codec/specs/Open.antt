@@ -25,7 +25,7 @@ varied o = record { before = o.before; here = o.before; ply = o.ply - 1 }
 abbrev pub left_of : Place → ℕ → ℕ → Said → List Visit
 left_of p round ply said = branch_visits p.before.position (ply - 1) said.variations ++ line_visits (round == 0) p.here.position ply said.line
 
--- From these bytes on an open line goes on to these bytes behind it, with so many lines round it and these moves left. Where
+-- From these bytes on an open line goes on to these bytes behind it, with so many lines round it and these moves left. If
 -- nothing hangs on the last move the position before it is not kept.
 pub record GoesOnIn (o : OpenLine) (round : ℕ) (bytes behind : List ℕ) (left : List Visit) : Type 0 where
   pub place : Place

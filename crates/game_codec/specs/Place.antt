@@ -1,22 +1,21 @@
--- What may stand at a place of a record's moves (this project's own, after Scid's format): a packed move, or one of five
--- marks. 11 is a NAG of the last move and has one more byte, 12 a comment of the last move or of the line's
--- beginning, 13 begins a variation of the last move, 14 ends it, and 15 ends the game. The marks after a move stand in any
--- order; those behind a variation still belong to the move that it hangs on.
+-- What may stand at a place of a record's moves (this project's own, after Scid's format): a packed move, or one of
+-- five marks. 11 is a NAG of the last move and has one more byte. 12 is a comment of the last move, or of the line's
+-- beginning. 13 begins a variation of the last move, 14 ends it, and 15 ends the game. The marks after a move stand in
+-- any order; those behind a variation still belong to the move that it hangs on.
 use Rattle.std.specs.Prelude.{◌≡◌, ℕ, zero, suc, ◌+◌, ◌<◌, ◌≤◌, ◌==◌, ◌⊎◌, Bool, true, false, not, nat_lt, if◌then◌else◌, IsTrue, List, [], ◌∷◌, Result, Ok, Err, drop}
 use Rattle.cell_core.specs.declared.step.Move.{Move}
+use Rattle.cell_core.specs.Steps.{blamed, ◌>>=◌}
 use Rattle.chess_laws.specs.Step.{stepped}
-use Rattle.chess_text.specs.FieldReading.{◌>>=◌}
 use Rattle.game_tree.specs.Legal.{deepest}
 use Rattle.move_codec.specs.Numbers.{Numbered, numbers_after}
 use Rattle.move_codec.specs.Packed.{decoded, is_mark}
-use Rattle.game_codec.specs.Steps.{blamed}
 use Rattle.game_codec.specs.Token.{Token, Play, Nag, Comment, Open, Close, End}
 use Rattle.game_codec.specs.declared.fault.RecordWhat.{RecordWhat}
 use Rattle.game_codec.specs.declared.fault.RecordWhat.TheVariants as what
 
--- A place in a line: how many variations are open there, the position before the line's last move and the position after
--- it, whether the line has a move yet, and whether a comment stands at the place. Before the first move of a line both
--- positions are the one that the line begins at.
+-- A place in a line: how many variations are open there, the position before the line's last move and the position
+-- after it. It also has whether the line has a move yet, and whether a comment stands at the place. Before the first
+-- move of a line both positions are the one that the line begins at.
 pub record Place : Type 0 where
   pub depth : ℕ
   pub before : Numbered
@@ -47,19 +46,21 @@ abbrev pub nag_at : List ℕ → Result (Token × List ℕ) RecordWhat
 nag_at [] = Err what.Short
 nag_at (n ∷ later) = Ok (Nag n, later)
 
--- The item at a place and the bytes behind it, or what is wrong: a move, or a mark. A NAG and a variation stand behind a move, one comment at a
+-- The item if it may stand there, or else what is wrong.
+abbrev pub allowed : {A : Type 0} → Bool → RecordWhat → A → Result A RecordWhat
+allowed may wrong item = if may then Ok item else Err wrong
+
+-- The item at a place and the bytes behind it, or what is wrong: a mark, or else a move. A NAG and a variation stand behind a move, one comment at a
 -- place, and the end of the game in the main line alone.
 unfoldable pub token_at : Place → List ℕ → Result (Token × List ℕ) RecordWhat
 token_at p [] = Err what.Short
 token_at p (byte ∷ later) =
-    if not (is_mark byte) then (blamed what.Move (decoded p.here (byte ∷ later)) >>= λ d. Ok (Play d.0, drop d.1 (byte ∷ later)))
-    else if byte == 12 then if p.has_comment then Err what.TwoComments else Ok (Comment, later)
-    else if byte == 14 then if p.depth == 0 then Err what.Mark else Ok (Close, later)
-    else if byte == 15 then if p.depth == 0 then Ok (End, later) else Err what.Mark
-    else if not p.has_move then Err what.Mark
-    else if byte == 11 then nag_at later
-    else if nat_lt p.depth deepest then Ok (Open, later)
-    else Err what.Depth
+    if byte == 11 then allowed p.has_move what.Mark later >>= nag_at
+    else if byte == 12 then allowed (not p.has_comment) what.TwoComments (Comment, later)
+    else if byte == 13 then allowed p.has_move what.Mark (Open, later) >>= allowed (nat_lt p.depth deepest) what.Depth
+    else if byte == 14 then allowed (nat_lt 0 p.depth) what.Mark (Close, later)
+    else if byte == 15 then allowed (p.depth == 0) what.Mark (End, later)
+    else blamed what.Move (decoded p.here (byte ∷ later)) >>= λ d. Ok (Play d.0, drop d.1 (byte ∷ later))
 
 -- The first byte is no mark, so that a move is due.
 abbrev pub IsMoveDue : List ℕ → Type 0

@@ -73,7 +73,7 @@ pub record HasRead (bytes : List ℕ) (p : At) : Type 0 where
   pub main : p.place.depth ≡ 0
   pub room : size_of p.tally + length p.rest.now ≤ length bytes
 
--- And where the bytes are a record, this is in the main line of its game.
+-- And if the bytes are a record, this is in the main line of its game.
 pub record IsReading (bytes : List ℕ) (p : At) (ply : ℕ) : Type 0 where
   pub few : length bytes < 2 ^ 32
   pub left : ply + length p.rest.now ≤ length bytes

@@ -1,5 +1,5 @@
--- Which bytes are a record, and what they say (this project's own, after Scid's format): extra tags and a zero byte, the
--- start, the moves, and the texts of the comments in the order of their marks.
+-- Which bytes are a record, and what they say (this project's own, after Scid's format). A record has extra tags and a
+-- zero byte, the start, the moves, and the texts of the comments in the order of their marks.
 use Rattle.std.specs.Prelude.{◌≡◌, ℕ, List, Ok}
 use Rattle.game_tree.specs.Game.{GameTree}
 use Rattle.game_tree.specs.Movetext.{Movetext, meaning}

@@ -1,9 +1,10 @@
--- What bytes are as a record, read from left to right (this project's own, after Scid's format): extra tags and a zero byte, the start, the moves,
--- and the texts of the comments in the order of their marks; or the first fault, before which all stands as in a record.
+-- What bytes are as a record, read from left to right (this project's own, after Scid's format). A record has extra
+-- tags and a zero byte, the start, the moves, and the texts of the comments in the order of their marks. Bytes that are
+-- no record have a first fault, before which all stands as in a record.
 use Rattle.std.specs.Prelude.{ℕ, zero, suc, ◌-◌, ◌%◌, ◌==◌, if◌then◌else◌, List, [], ◌∷◌, Some, None, Result, Ok, Err, length, drop, slice_index_or}
+use Rattle.cell_core.specs.Steps.{blamed, ◌>>=◌}
 use Rattle.chess_laws.specs.declared.setup.Setup.{Setup}
 use Rattle.chess_text.specs.FenAnswer.{fen_answer}
-use Rattle.chess_text.specs.FieldReading.{◌>>=◌}
 use Rattle.game_tree.specs.Game.{GameTree}
 use Rattle.game_tree.specs.Movetext.{Movetext, end, move, nag, comment, variation, Said, meaning}
 use Rattle.game_tree.specs.TagName.{free_of}
@@ -12,7 +13,6 @@ use Rattle.move_codec.specs.Numbers.{Numbered}
 use Rattle.move_codec.specs.declared.fault.MoveFault.TheVariants as of_move
 use Rattle.game_codec.specs.Place.{Place, beginning, after_move, after_comment, variation_of, token_at}
 use Rattle.game_codec.specs.Start.{own_start, standard_start}
-use Rattle.game_codec.specs.Steps.{blamed}
 use Rattle.game_codec.specs.TagReading.{tag_at}
 use Rattle.game_codec.specs.Texts.{texts_of}
 use Rattle.game_codec.specs.Token.{Play, Nag, Comment, Open, Close, End}
@@ -43,7 +43,7 @@ tags_at (suc most) bytes = do
     | Some tag ↦ tags_at most tag.1 >>= λ tags. Ok (tag.0 ∷ tags.0, tags.1)
   ]
 
--- The start: a byte of flags, and where its bit 0 is set a FEN and a zero byte.
+-- The start: a byte of flags, and if its bit 0 is set a FEN and a zero byte.
 unfoldable pub start_at : List ℕ → Read Numbered
 start_at [] = Err ([], what.Short)
 start_at (flags ∷ bytes) = if flags % 2 == 0 then Ok (standard_start, bytes) else do
@@ -51,7 +51,8 @@ start_at (flags ∷ bytes) = if flags % 2 == 0 then Ok (standard_start, bytes) e
   position ← blamed (λ _. (bytes, what.Fen)) (fen_answer text.0)
   Ok (own_start position, text.1)
 
--- The items of a line from a place on, with its end, where their number has a bound. The texts of its comments stand elsewhere.
+-- The items of a line from a place on, with its end, if their number has a bound. Each takes a byte at least, so as many as there are bytes is
+-- a bound that is never met. The texts of the comments stand elsewhere.
 unfoldable pub moves_at : ℕ → Place → List ℕ → Read Movetext
 moves_at zero p bytes = Err (bytes, what.Short)
 moves_at (suc most) p bytes = do
@@ -74,13 +75,16 @@ texts_at (suc n) bytes = do
   texts ← texts_at n text.1
   Ok (text.0 ∷ texts)
 
--- The movetext with these texts for its comments.
-abbrev pub with_texts : List (List ℕ) → Movetext → Movetext
-with_texts texts end = end
-with_texts texts (move m s) = move m (with_texts texts s)
-with_texts texts (nag n s) = nag n (with_texts texts s)
-with_texts texts (comment text s) = comment (slice_index_or texts 0 []) (with_texts (drop 1 texts) s)
-with_texts texts (variation inner s) = variation (with_texts texts inner) (with_texts (drop (length (texts_of inner)) texts) s)
+-- The movetext with the first of these texts for its comments, and the texts that are left.
+abbrev pub with_texts : Movetext → List (List ℕ) → Movetext × List (List ℕ)
+with_texts end texts = (end, texts)
+with_texts (move m s) texts = let later = with_texts s texts in (move m later.0, later.1)
+with_texts (nag n s) texts = let later = with_texts s texts in (nag n later.0, later.1)
+with_texts (comment text s) texts = let later = with_texts s (drop 1 texts) in (comment (slice_index_or texts 0 []) later.0, later.1)
+with_texts (variation inner s) texts =
+    let within = with_texts inner texts in
+    let later = with_texts s within.1 in
+    (variation within.0 later.0, later.1)
 
 -- The game that begins at this position and of which this is said.
 abbrev pub game_of : Setup → Said → GameTree
@@ -93,10 +97,10 @@ game_at bytes = do
   start ← start_at tags.1
   moves ← moves_at (length start.1) (beginning 0 start.0) start.1
   texts ← texts_at (length (texts_of moves.0)) moves.1
-  Ok (free_of tags.0, game_of start.0.position (meaning (with_texts texts moves.0)))
+  Ok (free_of tags.0, game_of start.0.position (meaning (with_texts moves.0 texts).0))
 
 -- The place of a fault by the record's length and the bytes from the faulty item on: the item's first byte, and the
--- record's length where it ends early.
+-- record's length if it ends early.
 abbrev pub place_of : ℕ → List ℕ → RecordWhat → ℕ
 place_of len rest what.Short = len
 place_of len rest (what.Move of_move.Short) = len

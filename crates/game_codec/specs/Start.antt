@@ -1,4 +1,4 @@
--- The start of a game in its record: a byte of flags, and where its bit 0 is set a FEN and a zero byte (this project's
+-- The start of a game in its record: a byte of flags, and if its bit 0 is set a FEN and a zero byte (this project's
 -- own, after Scid's format; PGN standard, 16.1, for the FEN).
 use Rattle.std.specs.Prelude.{◌≡◌, ℕ, ◌%◌, ◌⊎◌, List, [], ◌∷◌, ◌++◌, Ok, Err}
 use Rattle.cell_core.specs.Text.{IsZeroFree}
@@ -26,7 +26,7 @@ pub record IsStandardStart (bytes : List ℕ) (start : Numbered) (rest : List �
   pub start_is : start ≡ standard_start
 
 -- The bytes begin with flags that say an own start, a FEN of its position and a zero byte. Its men have the numbers of
--- the FEN's order, also where it is the initial position.
+-- the FEN's order, even if the FEN is that of the initial position.
 pub record IsOwnStart (bytes : List ℕ) (start : Numbered) (rest : List ℕ) : Type 0 where
   pub flags : ℕ
   pub set : flags % 2 ≡ 1

@@ -1,5 +1,5 @@
--- What the first bytes of a record's tags are, byte by byte: the next tag, the end of the tags, or the first fault. A bad
--- byte of a name or a value counts also where the record ends before that part is whole (this project's own).
+-- What the first bytes of a record's tags are, byte by byte: the next tag, the end of the tags, or the first fault
+-- (this project's own). A bad byte of a name or a value counts even if the record ends before that part is whole.
 use Rattle.std.specs.Prelude.{◌≡◌, ℕ, ◌+◌, ◌-◌, ◌*◌, ◌/◌, ◌%◌, ◌==◌, ◌&&◌, not, nat_lt, nat_le, if◌then◌else◌, Bool, List, [], ◌∷◌, Option, Some, None, Result, Ok, Err, length, take, drop, slice_index_or, codes}
 use Rattle.std.specs.List.{list_all}
 use Rattle.game_tree.specs.Date.{date_of, date_text}

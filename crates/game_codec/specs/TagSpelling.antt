@@ -1,5 +1,6 @@
--- The extra tags of a record (this project's own, after Scid's format): each is its name's length, its name, its value's
--- length and its value; or a code that stands for a common name, and then the value; or the code 255 and a packed date.
+-- The extra tags of a record (this project's own, after Scid's format). A tag is its name's length, its name, its
+-- value's length and its value. A code may stand for the length and the text of a common name, and the code 255 with a
+-- packed date is a tag EventDate.
 use Rattle.std.specs.Prelude.{◌≡◌, ℕ, ◌+◌, ◌/◌, ◌%◌, ◌⊎◌, List, [], ◌∷◌, ◌++◌, Some, length, slice_get, codes}
 use Rattle.game_tree.specs.Date.{IsDate, date_number, date_text}
 use Rattle.game_tree.specs.Head.{IsName}

@@ -30,7 +30,7 @@ TextFault read due rest what.Short = (read < due) × IsZeroFree rest
 TextFault read due rest what.Extra = (read ≡ due) × (rest ≢ [])
 TextFault read due rest _ = ⊥
 
--- The bytes begin with some texts, and what follows them, from there on, has this fault, where so many texts are due.
+-- The bytes begin with some texts, and what follows them, from there on, has this fault, if so many texts are due.
 pub record BreaksTexts (due : ℕ) (bytes rest : List ℕ) (what : RecordWhat) : Type 0 where
   pub texts : List (List ℕ)
   pub zero_free : All IsZeroFree texts

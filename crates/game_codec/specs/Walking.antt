@@ -32,14 +32,14 @@ pub record IsBehind (game : GameTree) (here : Numbered) (ply : ℕ) (ahead : Lis
   pub position : here.position ≡ position_at game ply
   pub line : GoesOn here (drop ply (main_moves game)) ahead
 
--- Where the bytes are a record, the walk is in the main line of its game.
+-- If the bytes are a record, the walk is in the main line of its game.
 pub record IsWalk (bytes ahead : List ℕ) (here : Numbered) (ply : ℕ) : Type 0 where
   pub few : length bytes < 2 ^ 32
   pub left : ply + length ahead ≤ length bytes
   pub tail : ahead ≡ drop (length bytes - length ahead) bytes
   pub follows : (tags : List Tag) (game : GameTree) → IsRecord bytes tags game → IsBehind game here ply ahead
 
--- At a position this stands where so many bytes are left.
+-- At a position this stands if so many bytes are left.
 abbrev pub MetIn : Setup → List ℕ → Breach → Type 0
 MetIn here bytes breach = (breach.left ≤ length bytes) × Meets here (drop (length bytes - breach.left) bytes) breach.what
 

@@ -1,5 +1,6 @@
--- The one written form of a record: every tag's name written out; a FEN for a start other than the initial position; after
--- each move its NAGs, its comment and its variations, and a line's own comment before its first move.
+-- The one written form of a record (this project's own, after Scid's format). Every tag's name is written out, and a
+-- start other than the initial position is a FEN. After each move stand its NAGs, its comment and its variations. A
+-- line's own comment stands before its first move.
 use Rattle.std.specs.Prelude.{ℕ, ◌+◌, Bool, if◌then◌else◌, List, [], ◌∷◌, ◌++◌}
 use Rattle.chess_laws.specs.declared.setup.Setup.{Setup}
 use Rattle.chess_laws.specs.Position.{is_start}

@@ -90,8 +90,8 @@ impl<'a> AllWalk<'a> {
         self.lines.outer.is_empty()
     }
 
-    /// Plays the next move in written order and gives it, or gives `None` where all were given. The fault comes only where
-    /// the bytes are no record. After `None` and after a fault the position is that of some line.
+    /// Plays the next move in written order and gives it, or gives `None` after the last one. Bytes that give a fault
+    /// are no record. After `None` and after a fault the position is that of some line.
     pub fn step(&mut self) -> Result<Option<Move>, RecordFault>
         // On a record of a game it is the next of all its moves.
         ensures next { IfOk result (λ next. (tags : List TagValue) (game : GameTree) → IsRecord self.old.bytes tags game
@@ -115,8 +115,8 @@ impl<'a> AllWalk<'a> {
     }
 }
 
-// An open line: the position before its last move and the one behind it, and how many moves led there. The position before
-// the last move is kept only where a variation of that move may begin.
+// An open line: the position before its last move and the one behind it, and how many moves led there. The position
+// before the last move is kept only if a variation of that move may begin.
 #[derive(Drop)]
 struct OpenLine {
     before: Numbered,
@@ -161,7 +161,7 @@ impl OpenLine {
         Ok(played)
     }
 
-    // Keeps the position as the one before the next move, where a variation of that move may follow.
+    // Keeps the position as the one before the next move, if a variation of that move may follow.
     fn keep_before(&mut self, due: &[u8])
         ensures here { self.new.here ≡ self.old.here }
         ensures ply { self.new.ply ≡ self.old.ply }

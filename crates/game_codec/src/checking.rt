@@ -21,7 +21,7 @@ use super::texts::zero_at;
 use super::token::Token;
 use super::tokens::next_token;
 
-/// The first fault of these bytes, or `None` where they are a record: each list of bytes is one or has a fault. It takes no
+/// The first fault of these bytes, or `None` if they are a record: each list of bytes is one or has a fault. It takes no
 /// memory. A record has fewer than 2^32 bytes.
 pub fn first_fault(bytes: &[u8]) -> Option<RecordFault>
     requires few { length bytes.now < 2 ^ 32 }
@@ -88,7 +88,7 @@ pub(crate) fn check_line(place: Place, bytes: &[u8], tally: &mut Tally) -> Resul
     }
 }
 
-/// How many of so many texts are not empty, where the bytes are so many.
+/// How many of so many texts are not empty, if the bytes are so many.
 pub(crate) fn check_texts(due: usize, bytes: &[u8]) -> Result<usize, Breach>
     ensures ok { IfOk result (AreSomeTexts due bytes.now) }
     ensures err { IfErr result (Tells (BreaksTexts due bytes.now)) }

@@ -28,15 +28,15 @@ pub struct Encoded {
     pub last: Position,
 }
 
-/// The record of a legal game with these extra tags, which are within their bounds: its one written form. It is read again
-/// as the same game and the same tags. `TooLong` comes exactly where it would have more than 131,071 bytes.
+/// Writes the record of a legal game with these extra tags, which are within their bounds. The record has one written
+/// form, and is read again as the same game and the same tags. `TooLong` comes if it would have more than 131,071 bytes.
 pub fn encode_game(alloc: Global, g: &Game, tags: &[Tag]) -> Result<Vec<u8>, EncodeError>
     requires legal { IsLegalGame g.now }
     requires tags { All IsTag tags.now }
     ensures written { IfOk result (λ bytes. bytes.items ≡ written_record tags.now g.now) }
     ensures fits { IfOk result (λ bytes. length bytes.items ≤ longest) }
     ensures read_again { IfOk result (λ bytes. IsRecord bytes.items tags.now g.now) }
-    // That form is refused only where it is too long or for want of memory.
+    // That form is refused only for its length or for want of memory.
     ensures too_long { IfErr result (IfTooLong (λ n. (n ≡ length (written_record tags.now g.now)) × (longest < n))) }
 {
     Ok(encode_to_end(alloc, g, tags)?.record)
@@ -84,8 +84,8 @@ fn whole_record(alloc: Global, g: &Game, tags: &[Tag]) -> Result<Encoded, AllocE
     })
 }
 
-// The flags that tell of promotions: 2 where there is one in the main line or in a variation, and 4 more where there is
-// one to another man than a queen.
+// The flags that tell of promotions in the main line and in variations: 2 if there is any, and 4 more if there is one
+// to another man than a queen.
 fn promotion_flags(g: &Game) -> u8
     ensures flags { result ≡ promotion_flags g.now }
     ensures few { result < 8 }

@@ -38,7 +38,7 @@ struct TagDate {
     used: usize,
 }
 
-// The date of the next tag. There is no next one at the zero byte that ends the tags, and where the bytes begin with no tag.
+// The date of the next tag. There is no next one at the zero byte that ends the tags, and if the bytes begin with no tag.
 fn next_date(bytes: &[u8], game: Date) -> Option<TagDate>
     ensures next { MatchOption result ((tags : List TagValue) (behind : List ℕ) → BeginsTags bytes.now tags behind → tags ≡ []) (λ tag. IsTagDate game bytes.now tag.date tag.used) }
     ensures near { IfSome result (λ tag. IfSome tag.date (λ date. IsDate date × IsTrue (is_near date game))) }

@@ -43,7 +43,7 @@ pub enum RecordWhat {
 }
 
 /// The first fault of a record: what is wrong, and at which byte, counted from 0. The place is the first byte of the
-/// faulty item, and the record's length where it ends early.
+/// faulty item, and the record's length if it ends early.
 #[derive(Clone, Copy, Debug, PartialEq, Eq, Error)]
 #[error("byte {place}: {what}")]
 pub struct RecordFault {

@@ -32,7 +32,7 @@ impl Body {
         }
     }
 
-    // Adds a comment, where there is one.
+    // Adds a comment, if there is one.
     fn put_comment(&mut self, comment: &Option<Text>) -> Result<(), AllocError>
         ensures moves { IfOk result (λ _. self.new.moves.items ≡ self.old.moves.items ++ mark_text comment.now) }
         ensures texts { IfOk result (λ _. self.new.texts.items ≡ self.old.texts.items ++ comment_text comment.now) }

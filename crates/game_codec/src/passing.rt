@@ -17,7 +17,7 @@ pub(crate) enum Front {
     Passes(usize),
 }
 
-/// How many bytes stand before the next move of a main line, or `None` where the game ends.
+/// How many bytes stand before the next move of a main line, or `None` if the game ends.
 #[inline(always)]
 pub(crate) fn before_move(bytes: &[u8]) -> Result<Option<usize>, Breach>
     ensures due { IfOk result (λ found. MatchOption found

@@ -14,9 +14,9 @@ use chess_laws::Position;
 use move_codec::Numbered;
 use std::marker::Model;
 
-/// A place in a line: how many variations are open there, the position before the last move and the one behind it, whether
-/// the line has a move yet, and whether a comment stands at the place. The position before the last move is kept only where
-/// a variation of that move may begin.
+/// A place in a line: how many variations are open there, the position before the last move and the one behind it. It
+/// also has whether the line has a move yet, and whether a comment stands at the place. The position before the last
+/// move is kept only if a variation of that move may begin.
 #[derive(Drop)]
 pub(crate) struct Place {
     depth: u32,
@@ -130,7 +130,7 @@ impl Place {
         }
     }
 
-    // Keeps the position as the one before the next move, where a variation of that move may follow.
+    // Keeps the position as the one before the next move, if a variation of that move may follow.
     fn keep_before(&mut self, bytes: &[u8])
         ensures same { self.new ≡ with_before self.new.before self.old }
         ensures kept { (self.new.before ≡ self.old.here) ⊎ IsCalmBehind bytes.now }

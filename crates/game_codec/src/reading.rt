@@ -25,8 +25,8 @@ use cell_core::Move;
 use chess_laws::Position;
 use std::marker::Model;
 
-/// A reading of a record that goes from one move of the main line to the next and checks all that stands between them: it tells each
-/// fault that the bytes have, and at the end what all lines have. It takes no memory and makes no tree.
+/// A reading of a record that goes from one move of the main line to the next and checks all that stands between them.
+/// It tells each fault that the bytes have, and at the end what all lines have. It takes no memory and makes no tree.
 #[derive(Drop)]
 pub struct Reading<'a> {
     bytes: &'a [u8],

@@ -16,7 +16,7 @@ pub(crate) struct StartRead {
     pub(crate) used: usize,
 }
 
-/// Reads the flags behind the tags, and the FEN where they say an own start.
+/// Reads the flags behind the tags, and the FEN if they say an own start.
 pub(crate) fn read_start(bytes: &[u8]) -> Result<StartRead, Breach>
     ensures ok { IfOk result (λ read. BeginsStart bytes.now read.start (drop read.used bytes.now)) }
     ensures used { IfOk result (λ read. read.used ≤ length bytes.now) }

@@ -292,7 +292,7 @@ fn counted(bytes: &[u8], len: usize) -> Result<&[u8], RecordWhat>
     }
 }
 
-// The bytes that are there, where they are as many as are due.
+// The bytes that are there, if they are as many as are due.
 fn whole(there: &[u8], len: usize) -> Result<&[u8], RecordWhat>
     ensures ok { IfOk result (λ part. (part.now ≡ there.now) × (len ≤ length there.now)) }
     ensures err { IfErr result (λ what. (what ≡ fault.Short) × (length there.now < len)) }

@@ -89,8 +89,8 @@ impl<'a> Walk<'a> {
         self.ply
     }
 
-    /// Plays the next move of the main line and gives it, or gives `None` at its end. The fault comes only where the bytes
-    /// are no record. After `None` and after a fault the walk is as it was.
+    /// Plays the next move of the main line and gives it, or gives `None` at its end. Bytes that give a fault are no
+    /// record. After `None` and after a fault the walk is as it was.
     #[inline(always)]
     pub fn step(&mut self) -> Result<Option<Move>, RecordFault>
         // On a record of a game this is the game's next move.

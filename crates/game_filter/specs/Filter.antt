@@ -1,4 +1,4 @@
--- A filter is a list of optional plies, one per game: the ply at which the game is in, or none where
+-- A filter is a list of optional plies, one per game: the ply at which the game is in, or none if
 -- it is out. Each operation on filters is a function of such lists. This project's own; the
 -- operations are those of Scid's filters.
 use Rattle.std.specs.Prelude.{ℕ, nat_le, ◌&&◌, if◌then◌else◌, List, Option, Some, None, map, replicate, count_by, is_some}
@@ -38,7 +38,7 @@ joined join owns others = map (λ (both : Option ℕ × Option ℕ). join both.0
 abbrev pub intersection : List (Option ℕ) → List (Option ℕ) → List (Option ℕ)
 intersection owns others = joined in_both owns others
 
--- The games that are in either filter, at the own plies where there are any, else at the other's.
+-- The games that are in either filter, each at its own ply if it has one, else at the other's.
 abbrev pub union : List (Option ℕ) → List (Option ℕ) → List (Option ℕ)
 union owns others = joined option_or owns others
 

@@ -1,8 +1,8 @@
--- How the games of a base are numbered anew where some of them go (this project's own).
+-- How the games of a base are numbered anew if some of them go (this project's own).
 use Rattle.std.specs.Prelude.{◌≡◌, ℕ, ◌+◌, List, [], ◌∷◌, Option, Some, None, filter, is_some, map}
 use Rattle.std.specs.List.{zip}
 
--- For each game its new number, or none where it goes; and how many games stay.
+-- For each game its new number, or none if it goes; and how many games stay.
 pub record Numbering : Type 0 where
   pub to : List (Option ℕ)
   pub kept : ℕ

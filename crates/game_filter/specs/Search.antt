@@ -6,7 +6,7 @@ use Rattle.game_filter.specs.declared.op.Op.{Op}
 use Rattle.game_filter.specs.declared.op.Op.TheVariants.{Ignore, And, Or}
 
 -- The entry of a game after a search, from its entry before and its first matching ply, if any.
--- Ignore takes the match for every game; And takes it where the game was in, and leaves the others
+-- Ignore takes the match for every game; And takes it if the game was in, and leaves the others
 -- out; Or keeps the ply of a game that was in, and takes the match for the others.
 abbrev pub entry_after : Op → Option ℕ → Option ℕ → Option ℕ
 entry_after Ignore _ first = first

@@ -9,7 +9,7 @@ use std::marker::Model;
 
 /// One optional ply for each game of a base.
 ///
-/// A ply may be any number, so that none is free to say that a game is out: a bit beside it says so.
+/// A ply may be any number, so that none is free for a game that is out. A bit beside the ply tells it.
 #[derive(Debug, Drop)]
 pub(crate) struct Entries {
     plies: Vec<u32>,

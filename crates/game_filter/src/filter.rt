@@ -7,8 +7,8 @@ use std::marker::Model;
 
 /// The games of a base that are in, each with the ply at which it matched.
 ///
-/// Contracts see a filter as the list of its optional plies, one per game: a ply where the game is
-/// in, none where it is out. It takes four bytes and a bit a game, and its number of games in is kept beside them.
+/// Contracts see a filter as the list of its optional plies, one per game: a ply if the game is
+/// in, none if it is out. It takes four bytes and a bit a game, and its number of games in is kept beside them.
 #[derive(Debug, Drop)]
 pub struct Filter {
     entries: Entries,
@@ -86,7 +86,7 @@ impl Filter {
         self.count
     }
 
-    /// The ply at which game `i` is in, or none where it is out.
+    /// The ply at which game `i` is in, or none if it is out.
     pub fn get(&self, i: u32) -> Option<u32>
         requires game { i < length self.now }
         ensures entry { slice_get self.now i ≡ Some result }

@@ -1,6 +1,6 @@
 //! Filters: which games of a base are looked at, and at which ply each of them matched.
 //!
-//! A [`Filter`] has one entry per game: the ply at which the game is in, or none where it is out.
+//! A [`Filter`] has one entry per game: the ply at which the game is in, or none if it is out.
 //! It is what every search and every filter command works on.
 #![tactic(auto)]
 

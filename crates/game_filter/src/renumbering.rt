@@ -1,4 +1,4 @@
-//! How the games of a base are numbered anew where some of them go.
+//! How the games of a base are numbered anew if some of them go.
 ghost use Rattle.std.specs.Prelude.{◌≡◌, length, take};
 ghost use Rattle.game_filter.specs.Renumbering.{renumbered};
 
@@ -60,7 +60,7 @@ impl Renumbering {
         Ok(())
     }
 
-    /// The new number of each game, or none where it goes.
+    /// The new number of each game, or none if it goes.
     pub fn to(&self) -> &[Option<u32>]
         ensures to { result.now ≡ self.now.to }
         ensures rises { Rises 0 self.now.to self.now.kept }

@@ -17,16 +17,16 @@ pub trait Question {
     // Which games have to be read, and what is known of the others.
     ghost tells: { Self → Unread → Type 0 };
 
-    /// The first matching ply of game `i` of this signature, if it has one, where that is known without its record; `None` where the record
-    /// has to be read.
+    /// What is known of the first matching ply of game `i` of this signature without its record: the ply, if the game
+    /// has one; or `None`, if the record has to be read.
     fn unread(&mut self, i: u32, sig: &Brief<'_>) -> Option<Option<u32>>
         requires bounded { IsSigBounded sig.now }
         ensures same { self.new ≡ self.old }
         ensures reads { (unread : Unread) → tells self.old unread → is_none result ≡ unread.reads i sig.now }
         ensures known { (unread : Unread) → tells self.old unread → IfSome result (λ ply. ply ≡ unread.ply i) };
 
-    /// The first matching ply of the game of a record, if it has one and this is its signature; a fault comes only where the bytes are no
-    /// record.
+    /// The first matching ply of the game of a record, if it has one and this is its signature. Bytes that give a fault
+    /// are no record.
     fn in_record(&self, record: &[u8], sig: &Brief<'_>) -> Result<Option<u32>, RecordFault>
         requires short { length record.now ≤ 131071 }
         ensures first { IfOk result (λ ply. (tags : List Tag) (game : GameTree) → IsRecord record.now tags game → IsSig game sig.now → ply ≡ first self.now game) }

@@ -13,10 +13,10 @@ use base_files::Files;
 use game_filter::{Filter, Op};
 use sig_index::{FetchError, Games};
 
-/// Leaves in the filter what its entries become by a search. The filter has one entry per game, and `buf` has at least 131,072 bytes. A game
-/// is read where `op` looks at it and its first matching ply is not known unread, and so many bytes count as asked. After an error the games
-/// from one on have their old entries, and where the files tell what they hold those before it their new ones; if the error names a game, it
-/// is that one.
+/// Leaves in the filter what its entries become by a search. The filter has one entry per game, and `buf` has at least
+/// 131,072 bytes. A game is read if `op` looks at it and its first matching ply is not known unread, and so many bytes
+/// count as asked. After an error the games from one on have their old entries; if the error names a game, it is that
+/// one. The games before it have their new entries, if the files tell what they hold.
 pub fn search<Q: Question, G: Games, F: Files>(
     games: &G,
     q: &mut Q,

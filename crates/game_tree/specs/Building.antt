@@ -27,7 +27,7 @@ fresh = record { lead = None; done = []; last = None }
 abbrev pub opening : Building
 opening = record { current = fresh; outer = [] }
 
--- A list with one more element where there is one.
+-- A list with one more element, if there is one.
 abbrev pub and_last : {X : Type 0} → List X → Option X → List X
 and_last xs None = xs
 and_last xs (Some x) = xs ++ x ∷ []
@@ -61,7 +61,7 @@ more_variations v p = record p { variations = with_branch p.variations v }
 abbrev pub with_nag : ℕ → Open → Open
 with_nag n o = record o { last = option_map (more_nags n) o.last }
 
--- A comment belongs to the last move, or to the line where there is none yet.
+-- A comment belongs to the last move, or to the line if it has no move yet.
 abbrev pub with_comment_on : Option (List ℕ) → Option (List ℕ) → List Played → Option Played → Open
 with_comment_on t lead done None = record { lead = joined lead t; done = done; last = None }
 with_comment_on t lead done (Some p) = record { lead = lead; done = done; last = Some (more_comment t p) }
@@ -82,7 +82,7 @@ abbrev pub closed : Open → List Open → Building
 closed o [] = record { current = o; outer = [] }
 closed o (round ∷ outer) = record { current = with_variation (variation_of o) round; outer = outer }
 
--- Where an item may stand: a NAG and a variation behind a move, and the end of a variation where one is open.
+-- Where an item may stand: a NAG and a variation behind a move, and the end of a variation if one is open.
 abbrev pub MayStand : Item → Building → Type 0
 MayStand (item.move m) b = Unit {0}
 MayStand (item.nag n) b = IsSome b.current.last

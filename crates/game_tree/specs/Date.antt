@@ -1,4 +1,4 @@
--- Dates of games and events and their texts (PGN standard, 8.1.1.3: year, month and day, question marks where unknown).
+-- Dates of games and events and their texts (PGN standard, 8.1.1.3: year, month and day, question marks if unknown).
 use Rattle.std.specs.Prelude.{ℕ, ◌+◌, ◌*◌, ◌/◌, ◌%◌, ◌≤◌, Bool, ◌&&◌, ◌||◌, ◌==◌, nat_le, if◌then◌else◌, List, [], ◌∷◌, ◌++◌, map, length, slice_index, slice_range, Option, Some, None, codes}
 use Rattle.std.specs.List.{list_all}
 use Rattle.game_tree.specs.Decimal.{decimal_read}
@@ -17,7 +17,7 @@ pub record IsDate (d : Date) : Type 0 where
   pub month : d.month ≤ 12
   pub day : d.day ≤ 31
 
--- The last digit of a number, or a question mark where the part of the date is unknown.
+-- The last digit of a number, or a question mark if the part of the date is unknown.
 abbrev pub shown : ℕ → ℕ → ℕ
 shown whole number = if whole == 0 then 63 else 48 + number % 10
 
@@ -32,7 +32,7 @@ unfoldable pub part : ℕ → List ℕ → Option ℕ
 part limit text =
     if list_all (λ c. c == 63) text then Some 0 else decimal_read limit text
 
--- The date of three parts, where all are there.
+-- The date of three parts, if all are there.
 abbrev pub of_parts : Option ℕ → Option ℕ → Option ℕ → Option Date
 of_parts (Some y) (Some m) (Some d) = Some (record { year = y; month = m; day = d })
 of_parts _ _ _ = None
@@ -65,6 +65,6 @@ is_near event game =
     nat_le 1 event.year && nat_le event.year 2047 && nat_le 1 game.year
     && nat_le event.year (game.year + 3) && nat_le game.year (event.year + 3)
 
--- An event date keeps the rule where it is unknown or within the rule.
+-- An event date keeps the rule if it is unknown or within the rule.
 abbrev pub keeps_rule : Date → Date → Bool
 keeps_rule event game = is_unknown event || is_near event game

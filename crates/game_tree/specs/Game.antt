@@ -1,4 +1,4 @@
--- A game as contracts see it.
+-- A game as contracts see it (PGN standard, 8.2).
 use Rattle.std.specs.Prelude.{ℕ, Bool, not, List, Option, refl}
 use Rattle.std.specs.Coded.{Coded, code_by, coded×, coded_ℕ, coded_list, coded_option}
 use Rattle.chess_laws.specs.declared.setup.Setup.{Setup}

@@ -1,5 +1,6 @@
--- What every game keeps by the types of its parts: its start keeps the rules of a position, no text of a comment has a zero
--- byte, and each NAG is a number below 256 (PGN standard, 8.2.4; that a zero byte ends a stored text is this project's own).
+-- What every game keeps by the types of its parts. Its start keeps the rules of a position, no text of a comment has a
+-- zero byte, and each NAG is a number below 256 (PGN standard, 8.2.4; that a zero byte ends a stored text is this
+-- project's own).
 use Rattle.std.specs.Prelude.{ℕ, ◌<◌, List, All, Option, Some, None}
 use Rattle.cell_core.specs.Text.{IsZeroFree}
 use Rattle.chess_laws.specs.Position.{Sound}

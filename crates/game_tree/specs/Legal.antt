@@ -26,7 +26,7 @@ abbrev mutual
 abbrev pub deepest : ℕ
 deepest = 200
 
--- A game is legal where all its lines are and no more variations than that are open at one place.
+-- A game is legal if all its lines are and no more variations than that are open at one place.
 pub record IsLegalGame (g : GameTree) : Type 0 where
   pub lead : IsComment g.lead
   pub line : IsLegalLine g.start g.line

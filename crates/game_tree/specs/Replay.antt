@@ -1,4 +1,4 @@
--- The replay of a main line.
+-- The replay of a main line: its moves, and the positions between them (this project's own).
 use Rattle.std.specs.Prelude.{ℕ, List, Option, length, take, fold, slice_get}
 use Rattle.cell_core.specs.declared.step.Move.{Move}
 use Rattle.chess_laws.specs.declared.setup.Setup.{Setup}

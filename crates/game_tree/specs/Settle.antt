@@ -1,4 +1,4 @@
--- Where the date of an event stands: as the event date where it follows the rule of event dates, else as a tag
+-- Where the date of an event stands: as the event date if it follows the rule of event dates, else as a tag
 -- (this project's own).
 use Rattle.std.specs.Prelude.{◌≡◌, ℕ, if◌then◌else◌, List, [], ◌∷◌, ◌++◌, Option, Some, None, codes}
 use Rattle.std.specs.Option.{option_or}
@@ -14,7 +14,7 @@ event_date_name = codes "EventDate"
 abbrev pub event_date_tag : Date → Tag
 event_date_tag date = record { name = event_date_name; value = date_text date }
 
--- The date, where it follows the rule with the game's date.
+-- The date, if it follows the rule with the game's date.
 abbrev pub near_only : Date → Option Date → Option Date
 near_only game None = None
 near_only game (Some date) = if is_near date game then Some date else None
@@ -28,14 +28,14 @@ abbrev pub first_near_date : Date → List Tag → Option Date
 first_near_date game [] = None
 first_near_date game (tag ∷ tags) = option_or (near_date game tag) (first_near_date game tags)
 
--- A head without an event date, where the tags have this first date within the rule.
+-- A head without an event date, if the tags have this first date within the rule.
 abbrev pub taken_up : Head → Option Date → Head
 taken_up head None = head
 taken_up head (Some date) = record head { event_date = date; tags = tags_without event_date_name head.tags }
 
 -- The settled head. An event date within the rule removes all tags EventDate. One outside it becomes unknown, and a tag
--- with its text, added last, takes the place of all tags EventDate. Without an event date the first tag EventDate that
--- reads as a date within the rule gives it, and all tags EventDate go; where there is none, the tags stay.
+-- with its text, added last, takes the place of all tags EventDate. Without an event date, the first tag EventDate that
+-- reads as a date within the rule gives it, and all tags EventDate go. Without such a tag, the tags stay.
 unfoldable pub settled : Head → Head
 settled head =
     if is_near head.event_date head.date then record head { tags = tags_without event_date_name head.tags }

@@ -20,7 +20,7 @@ use Rattle.game_tree.specs.declared.tag_edit.TagEdit.TheVariants as edit
 use Rattle.game_tree.specs.declared.tag_edit.TagEditError.{TagEditError}
 use Rattle.game_tree.specs.declared.tag_edit.TagEditError.TheVariants as fault
 
--- The edit with a value that was read, or the fault where there is none.
+-- The edit with a value that was read, or the fault if none was.
 abbrev pub valued : {A : Type 0} → (A → TagEdit) → Option A → Result TagEdit TagEditError
 valued make value = ok_or (option_map make value) fault.Value
 
@@ -37,7 +37,7 @@ abbrev pub rating_edit : Colour → ℕ → ℕ → TagEdit
 rating_edit White kind number = edit.WhiteRating (rating_with kind number)
 rating_edit Black kind number = edit.BlackRating (rating_with kind number)
 
--- The edit of a rating where the name is that of one, and else of an extra tag.
+-- The edit of a rating if the name is that of one, and else of an extra tag.
 abbrev pub rating_or_extra : Option (Colour × ℕ) → List ℕ → List ℕ → Result TagEdit TagEditError
 rating_or_extra (Some rating) name value = valued (rating_edit rating.0 rating.1) (decimal_read 4095 value)
 rating_or_extra None name value = Ok (edit.Extra (record { name = name; value = value }))

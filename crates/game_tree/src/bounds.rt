@@ -11,9 +11,14 @@ use super::tag_name::{is_reserved, is_tag_name};
 use cell_core::is_zero_free;
 
 impl Head {
-    /// Whether each field is within its bounds: names of at most 255 bytes, years of at most 2047, months of at most 12
-    /// and days of at most 31, ratings of at most 4095 and of the kinds 0 to 6, an opening code of at most 65,500, marks
-    /// below 2^18, and extra tags whose names are tag names and not reserved, with values of at most 255 bytes.
+    /// Whether each field is within its bounds:
+    ///
+    /// - names have at most 255 bytes;
+    /// - years are at most 2047, months at most 12 and days at most 31;
+    /// - ratings are at most 4095 and of the kinds 0 to 6;
+    /// - an opening code is at most 65,500;
+    /// - marks are below 2^18;
+    /// - extra tags have names that are tag names and not reserved, and values of at most 255 bytes.
     pub fn is_bounded(&self) -> bool
         ensures bounded { IsTrue result ↔ IsBounded self.now }
     {
@@ -42,7 +47,7 @@ impl Date {
 }
 
 impl Rating {
-    /// Whether the value is at most 4095 and the kind at most 6, and 0 where the value is 0.
+    /// Whether the value is at most 4095 and the kind at most 6, and 0 if the value is 0.
     pub fn is_bounded(&self) -> bool
         ensures bounded { IsTrue result ↔ IsRating self.now }
     {

@@ -76,7 +76,7 @@ impl Builder {
         self.current.nag(nag)
     }
 
-    /// Adds a comment to the last move of the innermost line, or to the line's beginning where it has no move yet. An
+    /// Adds a comment to the last move of the innermost line, or to the line's beginning if it has no move yet. An
     /// empty text is no comment. Comments at one place are joined with a space.
     pub fn comment(&mut self, _alloc: Global, text: Text) -> Result<(), AllocError>
         ensures added { OnOk result (self.new ≡ added (item.comment text) self.old) }
@@ -94,7 +94,7 @@ impl Builder {
         Ok(())
     }
 
-    /// Ends the innermost variation, where one is open (`depth`).
+    /// Ends the innermost variation, if one is open (`depth`).
     pub fn close(&mut self, _alloc: Global) -> Result<(), AllocError>
         requires may { MayStand item.closes self.old }
         ensures added { OnOk result (self.new ≡ added item.closes self.old) }
@@ -106,7 +106,7 @@ impl Builder {
         Ok(())
     }
 
-    /// The line that was read, with the comment before its first move, where no variation is open. What was read from the
+    /// The line that was read, with the comment before its first move, if no variation is open. What was read from the
     /// items of a movetext alone is what the movetext means, and what was read from the items of a tree is that tree.
     pub fn finish(self, _alloc: Global) -> Result<Branch, AllocError>
         requires whole { self.outer ≡ [] }

@@ -84,7 +84,7 @@ impl Date {
     }
 
     /// The date that `text` reads as: `1994.05.12`, `1994.05` or `1994`, with question marks for an unknown part.
-    /// `None` where the text has another form or a part is above its greatest value.
+    /// `None` if the text has another form or a part is above its greatest value.
     #[tactic(auto, unfolding(crate::specs::Date::date_read))]
     pub fn read(text: &[u8]) -> Option<Date>
         ensures read { result ≡ date_read text.now }
@@ -157,7 +157,7 @@ fn dated(year: &[u8], month: &[u8], day: &[u8]) -> Option<Date>
     })
 }
 
-// A part of a date: 0 of question marks, the number of decimal digits where it is at most `limit`.
+// A part of a date: 0 of question marks, the number of decimal digits if it is at most `limit`.
 #[tactic(auto, unfolding(crate::specs::Date::part))]
 fn part(text: &[u8], limit: u16) -> Option<u16>
     ensures read { result ≡ part limit text.now }
@@ -177,7 +177,7 @@ fn is_unknown_part(text: &[u8]) -> bool
     text.iter().all(|c| *c == b'?')
 }
 
-// The last digit of `number` as text, or a question mark where the whole part of the date is 0.
+// The last digit of `number` as text, or a question mark if the whole part of the date is 0.
 fn shown(whole: u16, number: u16) -> u8
     ensures { result ≡ shown whole number }
 {

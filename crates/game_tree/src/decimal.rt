@@ -6,7 +6,7 @@ ghost use Rattle.std.specs.Char.{is_ascii_digit};
 ghost use Rattle.std.specs.Fmt.{decimal};
 ghost use Rattle.game_tree.specs.Decimal.{decimal_value, decimal_read, IsPadded};
 
-/// The number that `text` writes in decimal digits, at most `limit`. Leading zeros do no harm. `None` where the text is
+/// The number that `text` writes in decimal digits, at most `limit`. Leading zeros do no harm. `None` if the text is
 /// empty, has a byte that is no digit, or writes a greater number.
 #[tactic(auto, using(crate::proofs::DecimalLemmas::reading))]
 pub fn read_decimal(text: &[u8], limit: u64) -> Option<u64>
@@ -29,7 +29,7 @@ fn number_of(text: &[u8], limit: u64) -> Option<u64>
     value_of(text, limit)
 }
 
-// The number that these digits write, where it is at most `limit`.
+// The number that these digits write, if it is at most `limit`.
 fn value_of(digits: &[u8], limit: u64) -> Option<u64>
     requires { AllPass is_ascii_digit digits.now }
     ensures { MatchOption result (limit < decimal_value digits.now)
@@ -45,7 +45,7 @@ fn value_of(digits: &[u8], limit: u64) -> Option<u64>
     Some(number)
 }
 
-// The number with one more digit, where it is at most `limit`.
+// The number with one more digit, if it is at most `limit`.
 fn extended(number: u64, digit: u8, limit: u64) -> Option<u64>
     ensures { MatchOption result (limit < 10 * number + digit)
         (λ longer. (longer ≡ 10 * number + digit) × (longer ≤ limit)) }

@@ -4,9 +4,9 @@ ghost use Rattle.game_tree.specs.Eco.{eco_text, eco_read, extension_text, extens
 
 use arrayvec::ArrayVec;
 
-/// The text of an opening code: a letter from A to E and two digits, as in the Encyclopaedia of Chess Openings, and
-/// where the code has an extension a small letter and maybe a digit from 1 to 4, as `B15` or `B15a1`. The text of 0,
-/// which is no code, is empty.
+/// The text of an opening code, as `B15` or `B15a1`: a letter from A to E and two digits, as in the Encyclopaedia of
+/// Chess Openings. The extension of a code is a small letter, and maybe a digit from 1 to 4. The text of 0, which is no
+/// code, is empty.
 #[tactic(auto, using(crate::proofs::EcoLemmas::reading_back))]
 pub fn eco_text(number: u16) -> ArrayVec<u8, 5>
     requires { number ≤ 65500 }

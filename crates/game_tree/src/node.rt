@@ -9,8 +9,8 @@ use cell_core::{Move, Text};
 use std::alloc::{AllocError, Global};
 use std::marker::Model;
 
-/// A move of a line, with the numeric annotation glyphs and the comment that follow it and the variations that replace
-/// it, each of which begins at the position before the move.
+/// A move of a line, with the numeric annotation glyphs and the comment that follow it. The variations replace it: each
+/// begins at the position before the move.
 #[cycle(tree)]
 #[derive(Debug, Drop)]
 pub struct Node {

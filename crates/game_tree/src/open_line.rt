@@ -71,7 +71,7 @@ impl OpenLine {
         Ok(())
     }
 
-    /// Adds a comment to the last move, or to the line where there is none yet.
+    /// Adds a comment to the last move, or to the line if it has no move yet.
     pub(crate) fn comment(&mut self, text: Text) -> Result<(), AllocError>
         ensures commented { OnOk result (self.new ≡ with_comment text self.old) }
     {

@@ -18,7 +18,7 @@ impl Outcome {
         }
     }
 
-    /// The result that `text` is, or `None` where it is none of the four texts.
+    /// The result that `text` is, or `None` if it is none of the four texts.
     pub fn read(text: &[u8]) -> Option<Outcome>
         ensures read { result ≡ outcome_read text.now }
         ensures written { IfSome result (λ outcome. outcome_text outcome ≡ text.now) }

@@ -9,10 +9,14 @@ use super::head::{Head, Tag, text_of};
 use super::tags::is_named;
 use std::alloc::{AllocError, Global};
 
-/// Settles where the date of the event stands. A date is within the rule where its year is known and differs by at most
-/// 3 from the known year of the game. An event date within the rule removes all tags named EventDate; one outside it
-/// becomes unknown, and a tag EventDate with its text takes their place as the last tag; and where there is none, the
-/// first tag EventDate that reads as a date within the rule becomes the event date and all of that name go.
+/// Settles where the date of the event stands. A date is within the rule if its year is known and differs by at most 3
+/// from the known year of the game.
+///
+/// - An event date within the rule removes all tags named EventDate.
+/// - An event date outside of it becomes unknown. A tag EventDate with its text, as the last tag, takes the place of
+///   all of that name.
+/// - Without an event date, the first tag EventDate that reads as a date within the rule becomes the event date, and
+///   all of that name go.
 ///
 /// A head that was settled stays as it is. It fails only for want of memory, and then the head is as before.
 #[tactic(auto, using(crate::proofs::SettleLemmas::settling))]
@@ -95,7 +99,7 @@ fn first_near_date(tags: &[Tag], game: Date) -> Option<Date>
     None
 }
 
-// The date within the rule that this tag gives, where it is named EventDate.
+// The date within the rule that this tag gives, if it is named EventDate.
 #[tactic(auto, unfolding(crate::specs::Settle::near_date))]
 fn near_date(tag: &Tag, game: Date) -> Option<Date>
     ensures { result ≡ near_date game tag.now }

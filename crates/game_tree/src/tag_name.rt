@@ -33,9 +33,9 @@ const BLACK_RATINGS: [&[u8]; 7] = [
     b"BlackECF",
 ];
 
-/// Whether a tag of this name is a field of the head or told by other means, so that no extra tag has the name: the
-/// seven tags of the roster (PGN standard, section 8.1.1), the ratings of both players, ECO, SetUp, Setup, FEN and
-/// ScidFlags.
+/// Whether a tag of this name is a field of the head or told by other means, so that no extra tag has the name. These
+/// are the seven tags of the roster (PGN standard, section 8.1.1), the ratings of both players, ECO, SetUp, Setup, FEN
+/// and ScidFlags.
 #[tactic(auto, unfolding(crate::specs::TagName::is_reserved))]
 pub fn is_reserved(name: &[u8]) -> bool
     ensures reserved { result ≡ is_reserved name.now }

@@ -103,7 +103,7 @@ impl Tags {
     }
 }
 
-// Sets a tag where there is room for one more.
+// Sets a tag. The list has room for one more.
 #[tactic(auto, unfolding(crate::specs::TagList::with_tag))]
 fn set_reserved(list: &mut Vec<Tag>, tag: Tag)
     requires room { vec_len list.old < vec_capacity list.old }
@@ -118,7 +118,7 @@ fn set_reserved(list: &mut Vec<Tag>, tag: Tag)
     }
 }
 
-// Puts a tag into the place of the first of its name, or at the end where there is room.
+// Puts a tag into the place of the first of its name, or at the end. The list has room for one more.
 #[tactic(auto, using(crate::proofs::TagListLemmas::putting))]
 fn put_reserved(list: &mut Vec<Tag>, tag: Tag)
     requires room { vec_len list.old < vec_capacity list.old }
@@ -132,7 +132,7 @@ fn put_reserved(list: &mut Vec<Tag>, tag: Tag)
     }
 }
 
-// Removes all tags of the name of `tag` and adds it as the last one, where there is room.
+// Removes all tags of the name of `tag` and adds it as the last one. The list has room for one more.
 fn replace_reserved(list: &mut Vec<Tag>, tag: Tag)
     requires room { vec_len list.old < vec_capacity list.old }
     ensures { list.new.items ≡ tags_without tag.name list.old.items ++ tag ∷ [] }

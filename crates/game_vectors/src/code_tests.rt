@@ -97,7 +97,7 @@ fn short(bytes: &[u8]) -> &[u8]
     bytes.split_at(bytes.len().min(2000)).0
 }
 
-// The code of a row's game by its table, and none where the table or the record is refused.
+// The code of a row's game by its table, and none if the table or the record is refused.
 fn code_of(alloc: Global, row: &Row) -> Option<u16> {
     match EcoTable::read(alloc, short(row.table)) {
         Ok(table) => match table.classify(short(row.record)) {

@@ -12,9 +12,12 @@ use std::process::Abort;
 use std::test::Fail;
 use tree_live::{Slots, TableView, TreeView};
 
-// What the views of slots 0 and 2 show, counted by hand: both are watched, with a game that goes on with e4, one that goes on with d4 and
-// one that never stands there; the first has gone out and come back, so that nothing is told; a game with e4 was added for slot 0 alone
-// and the first goes on with d4, before the views are told and after.
+// What the views of slots 0 and 2 show, counted by hand, at four stages:
+//
+// - Both are watched, with a game that goes on with e4, one that goes on with d4 and one that never stands there.
+// - The first has gone out and come back, so that nothing is told.
+// - A game with e4 was added for slot 0 alone, and the first goes on with d4, before the views are told.
+// - The views were told.
 const STAGES: [[Shown; 2]; 4] = [
     [(2, 2, 3), (2, 2, 3)],
     [(2, 2, 3), (2, 2, 3)],

@@ -15,9 +15,14 @@ use tree_rows::GameHit;
 /// What a view shows: how many rows, how many games they count, and how many changes it was told.
 pub(crate) type Shown = (usize, u32, u64);
 
-// What the views of slots 0 and 2 show after each change, counted by hand: both are watched, with a game that goes on with e4, one that
-// goes on with d4 and one that never stands there; the first goes out and in again; a game with e4 comes in, for slot 0 alone; the first
-// goes on with d4; the second goes.
+// What the views of slots 0 and 2 show, counted by hand, at six stages:
+//
+// - Both are watched, with a game that goes on with e4, one that goes on with d4 and one that never stands there.
+// - The first goes out.
+// - It comes in again.
+// - A game with e4 comes in, for slot 0 alone.
+// - The first goes on with d4.
+// - The second goes.
 const STAGES: [[Shown; 2]; 6] = [
     [(2, 2, 3), (2, 2, 3)],
     [(1, 1, 4), (1, 1, 4)],
@@ -136,7 +141,7 @@ fn renumbered(
     Ok(both(rt, views))
 }
 
-// What a box that refuses its second row shows after it was to be watched, or nothing where that went well.
+// What a box that refuses its second row shows after it was to be watched, or nothing if that went well.
 fn refused(
     rt: &impl Abort,
     alloc: Global,

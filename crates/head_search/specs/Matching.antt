@@ -22,8 +22,8 @@ is_in span n = nat_le span.lo n && nat_le n span.hi
 abbrev pub begins : List ℕ → List ℕ → Bool
 begins name text = starts_with (λ a b. a == b) name text
 
--- An item of a name, of either player's name, of a result, of a number, of the opening code, of the deleted mark and of a mark, beside what a
--- game has there. An item of the opening code never holds of a game without one.
+-- An item beside what a game has there. Items are of a name, of either player's name, of a result, of a number, of the
+-- opening code, of the deleted mark and of a mark. An item of the opening code never holds of a game without one.
 unfoldable pub name_item : Option (List ℕ) → List ℕ → Bool
 name_item asked name = holds asked (λ text. begins name text)
 
@@ -45,9 +45,12 @@ deleted_item asked deleted = holds asked (λ yes. if yes then deleted else not d
 unfoldable pub mark_item : Option ℕ → ℕ → Bool
 mark_item asked marks = holds asked (λ bit. bit_at marks bit == 1)
 
--- All items hold but those of plies and of names. Key `deleted` asks whether the game is marked as deleted, `mark` for a mark that is set,
--- `year` for that of the game's date (an unknown year is 0), `welo` and `belo` for the ratings of White and Black, of any kind (no rating
--- is 0), `eco` for the opening code.
+-- All items hold but those of plies and of names. Each key asks for one field:
+--
+-- - `deleted` for whether the game is marked as deleted, and `mark` for a mark that is set;
+-- - `year` for that of the game's date (an unknown year is 0);
+-- - `welo` and `belo` for the ratings of White and Black, of any kind (no rating is 0);
+-- - `eco` for the opening code.
 abbrev pub numbers_match : Head → HeadQuery → Bool
 numbers_match head query =
     deleted_item query.deleted head.deleted && mark_item query.mark head.marks && result_item query.result head.result

@@ -93,7 +93,7 @@ pub(crate) fn span_holds(asked: &Option<Span>, n: u16) -> bool
     }
 }
 
-/// Whether an item of the opening code holds: never where there is no code.
+/// Whether an item of the opening code holds. It never holds for a game without a code.
 #[tactic(auto, unfolding(crate::specs::Matching::eco_item))]
 pub(crate) fn eco_holds(asked: &Option<Span>, eco: u16) -> bool
     ensures { result ≡ eco_item asked.now eco }

@@ -28,7 +28,7 @@ abbrev pub index_text : State → Option ℕ → List ℕ
 index_text s (Some depth) = if is_too_big s depth then too_big_line else index_line depth (entries_of (index_of (games_of s) depth).rows)
 index_text s None = codes "index off\n"
 
--- The records of all games are read where an index is built.
+-- The records of all games are read when an index is built.
 abbrev pub index_price : Option ℕ → List Look → List (Option ℕ) → ℕ
 index_price (Some depth) looks plies = sum_by (λ look. look.len) looks
 index_price None looks plies = 0

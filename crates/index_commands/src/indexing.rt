@@ -20,7 +20,8 @@ use shell_state::{Halt, Machine, error_line, write_line};
 use sig_index::Games;
 use std::alloc::{AllocError, Global};
 
-/// index D, D at most 40, or index off. An index that is there is dropped when the new one stands.
+/// The command `index D`, D at most 40, or `index off`: builds a position index to this depth, or drops it, and writes
+/// its line. An index that is there is dropped when the new one stands.
 pub fn index<F: Files, K: Sink>(
     alloc: Global,
     machine: &mut Machine,

@@ -1,5 +1,5 @@
 -- Each field by the bytes around it.
-use Rattle.std.proofs.Common.{◌≡◌, ◌+◌, ◌*◌, ◌/◌, ◌%◌, ℕ, List, get_or, refl, ◌∙◌, arith, inl, inr, eq-eqb}
+use Rattle.std.proofs.Common.{◌≡◌, ◌+◌, ◌*◌, ◌-◌, ◌/◌, ◌%◌, ◌^◌, ◌<◌, ℕ, List, get_or, refl, ◌∙◌, arith, inl, inr, eq-eqb}
 use Rattle.std.proofs.lemmas.Bool.{cases_eq, ne_eqb}
 use Rattle.index_entry.specs.Reading.{half}
 use Rattle.byteorder.specs.Endian.{big_from}
@@ -141,3 +141,7 @@ home_value-is b i h = elim (cases_eq (i % 2) 0) [
       let low = field-run b (39 + i / 2) 1 (8 * 39 + 4 * i) 4 0 h (omega arith) (omega arith) in
       rw (ne_eqb (i % 2) 0 ne) (omega (arith, low, h (39 + i / 2)))
 ]
+
+pub home_value-in_word : (b : List ℕ) (i : ℕ) → IsBytes b → i < 16 → field b (home_value i) ≡ big_from 39 8 b / 2 ^ (60 - 4 * i) % 16
+unfolding home_value
+home_value-in_word b i h less = field-run b 39 8 (8 * 39 + 4 * i) 4 (60 - 4 * i) h (omega arith) (omega (arith, less))

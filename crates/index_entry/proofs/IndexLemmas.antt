@@ -6,11 +6,11 @@ use Rattle.std.proofs.lemmas.List.{take_at, drop_at, length-append}
 use Rattle.byteorder.specs.Endian.{big_bytes}
 use Rattle.byteorder.specs.Numbers.{big_number-reads_back}
 use Rattle.index_entry.specs.declared.index.IndexHead.{IndexHead}
-use Rattle.index_entry.specs.Index.{number_in, head_in, index_read, index_bytes, IsIndexHead}
+use Rattle.index_entry.specs.Index.{number_in, head_in, header_read, index_read, index_bytes, IsIndexHead}
 
 pub index_again : (h : IndexHead) (entries : List ℕ) → IsIndexHead h → h.kind < 4294967296 → length h.description ≡ 108 → length h.custom ≡ 54
     → length entries ≡ 47 * h.games → index_read (index_bytes h entries) ≡ Ok h
-unfolding index_read index_bytes head_in
+unfolding index_read header_read index_bytes head_in
 index_again h entries is kind_fits long custom_long sized =
     let kind : number_in 10 4 (index_bytes h entries) ≡ h.kind =
     big_number-reads_back 4 h.kind (big_bytes 3 h.games ++ (big_bytes 3 h.autoload ++ (h.description ++ (h.custom ++ entries)))) kind_fits in

@@ -1,8 +1,10 @@
 -- What the places say is what the functions read.
-use Rattle.std.proofs.Common.{◌≡◌, ◌<◌, ◌+◌, ◌*◌, ◌/◌, ◌%◌, ℕ, zero, suc, Bool, true, false, cond, eqb, ltb, ◌||◌, List, [], ◌∷◌, map, get_or, Some, None, Ok, Err, refl, sym, ap, ◌∙◌, arith}
+use Rattle.std.proofs.Common.{◌≡◌, ◌<◌, ◌+◌, ◌*◌, ◌-◌, ◌/◌, ◌%◌, ◌^◌, ℕ, zero, suc, Bool, true, false, cond, eqb, ltb, ◌||◌, List, [], ◌∷◌, map, get_or, Some, None, Ok, Err, refl, sym, ap, ◌∙◌, arith}
 use Rattle.std.specs.List.{range_with_len}
+use Rattle.std.proofs.lemmas.Bool.{lt-ltb}
 use Rattle.std.proofs.lemmas.List.FromFn.{get_or-map-range_with_len}
 use Rattle.std.specs.Option.{option_map_or}
+use Rattle.cell_core.specs.Steps.{◌>>=◌}
 use Rattle.byteorder.specs.Endian.{big_from}
 use Rattle.byteorder.specs.Numbers.{big_from-lt}
 use Rattle.game_tree.specs.Date.{date_of}
@@ -13,7 +15,7 @@ use Rattle.index_entry.specs.Bits.{field}
 use Rattle.index_entry.specs.Places as places
 use Rattle.index_entry.proofs.FieldPlaces as spots
 use Rattle.index_entry.specs.Entry.{outcome_of, date_in, event_date_in, event_date_of, rating_of, is_bad_rating, home_in, entry_in, fault_in, entry_read}
-use Rattle.index_entry.specs.Reading.{◌>>=◌, outcome_at, eco_at, event_at, dates_at, rating_at, material_at, home_at, fields_at, entry_at}
+use Rattle.index_entry.specs.Reading.{outcome_at, eco_at, event_at, dates_at, rating_at, material_at, home_at, fields_at, entry_at}
 use Rattle.index_entry.proofs.BitLemmas.{IsBytes, field-run}
 use Rattle.index_entry.proofs.FieldLemmas as fields
 
@@ -114,8 +116,12 @@ home_read_is b h i = λ j. cond (ltb i (home_count_read_is b h j)) (fields.home_
 pub home_values_read_is : (b : List ℕ) → IsBytes b → map (home_in b) (range_with_len 0 16) ≡ map (home_at b) (range_with_len 0 16)
 home_values_read_is b h = let home = home_read_is b h in λ i. map (λ j. home j i) (range_with_len 0 16)
 
-pub home_value_read_is : (b : List ℕ) → IsBytes b → (i : ℕ) → i < 16 → home_at b i ≡ get_or (map (home_in b) (range_with_len 0 16)) i 0
-home_value_read_is b h i less = sym (get_or-map-range_with_len (home_in b) 0 16 i i 0 less (omega arith) ∙ home_read_is b h i)
+pub home_word_read_is : (b : List ℕ) → IsBytes b → (i : ℕ) → i < 16 → i < field b places.home_count
+    → big_from 39 8 b / 2 ^ (60 - 4 * i) % 16 ≡ get_or (map (home_in b) (range_with_len 0 16)) i 0
+home_word_read_is b h i less under =
+    let read : home_in b i ≡ field b (places.home_value i) =
+    ap (λ (t : Bool). cond t (field b (places.home_value i)) 0) (lt-ltb i (field b places.home_count) under) in
+    sym (get_or-map-range_with_len (home_in b) 0 16 i i 0 less (omega arith) ∙ read ∙ fields.home_value-in_word b i h less)
 
 pub material_read_is : (b : List ℕ) → IsBytes b → map (field b) spots.material ≡ material_at (get_or b 34 0) (get_or b 35 0) (get_or b 36 0)
 unfolding material_at

@@ -4,6 +4,7 @@ use Rattle.std.specs.Prelude.{IsTrue}
 use Rattle.std.specs.List.{range_with_len}
 use Rattle.std.proofs.lemmas.Bool.{lt-ltb, le-ltb, leb-true, eqb-true, cases_eq, cases_lt, cases_Bool, and_parts, ne_eqb, cond-true, cond-false}
 use Rattle.std.proofs.lemmas.List.FromFn.{fill_by_all}
+use Rattle.cell_core.specs.Steps.{◌>>=◌}
 use Rattle.byteorder.specs.Endian.{big_from}
 use Rattle.game_tree.specs.Date.{IsDate, unknown_date, is_unknown, is_near, keeps_rule, date_of, date_number}
 use Rattle.game_tree.specs.Head.{IsRating}
@@ -17,7 +18,7 @@ use Rattle.index_entry.specs.declared.fault.EntryFault.TheVariants as faults
 use Rattle.index_entry.specs.Bits.{field}
 use Rattle.index_entry.specs.Places as places
 use Rattle.index_entry.specs.Entry.{date_in, has_event_date, home_from, event_places, free_places, IsWritten, AreCounts, IsEntry}
-use Rattle.index_entry.specs.Reading.{◌>>=◌, outcome_at, eco_at, event_at, dates_at, rating_at, material_at, half, home_at, fields_at, entry_at}
+use Rattle.index_entry.specs.Reading.{outcome_at, eco_at, event_at, dates_at, rating_at, material_at, half, home_at, fields_at, entry_at}
 use Rattle.index_entry.specs.Writing.{bit_of, code_of, flags_of, counts_of, event_number, dates_word, rating_word, place_bytes, id_bytes, game_bytes, two_of, last_bytes, written}
 use Rattle.index_entry.proofs.BitLemmas.{IsBytes, field-append}
 use Rattle.index_entry.proofs.FieldLemmas as fields

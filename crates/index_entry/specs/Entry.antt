@@ -22,7 +22,7 @@ outcome_of code = slice_index_or (outcomes.Unknown ∷ outcomes.White ∷ outcom
 abbrev pub date_in : List ℕ → Date
 date_in bytes = date_of (field bytes (bits 25 12 20))
 
--- An event date is there where its code is not 0, the game's year is known, and the event's year, the game's and the code less 4, is from 1 to 2047.
+-- An event date is there if its code is not 0, the game's year is known, and the event's year, the game's and the code less 4, is from 1 to 2047.
 abbrev pub has_event_date : ℕ → ℕ → Bool
 has_event_date year code = nat_lt 0 code && nat_lt 0 year && nat_lt 4 (year + code) && nat_lt (year + code) 2052
 
@@ -109,8 +109,8 @@ home_from i (suc count) = places.home_value i ++ home_from (suc i) count
 abbrev pub event_places : List ℕ
 event_places = places.event_code ++ (places.event_month ++ places.event_day)
 
--- The places that say nothing: the spare bit, the code of a stored line, the home values past the end of their list, the kind of no
--- rating, and the bits of an event date where there is none.
+-- The places that say nothing: the spare bit, the code of a stored line, the home values past the end of their list,
+-- and the kind of no rating. Without an event date, its bits are among them.
 unfoldable pub free_places : List ℕ → List ℕ
 free_places bytes =
     places.spare

@@ -1,6 +1,7 @@
 -- An entry by its bytes and words, as the functions of this crate read it.
 use Rattle.std.specs.Prelude.{◌+◌, ◌*◌, ◌/◌, ◌%◌, ◌^◌, ℕ, ◌||◌, nat_eq, nat_lt, if◌then◌else◌, List, [], ◌∷◌, map, slice_index, Result, Ok, Err}
 use Rattle.std.specs.List.{range_with_len}
+use Rattle.cell_core.specs.Steps.{◌>>=◌}
 use Rattle.byteorder.specs.Endian.{big_from}
 use Rattle.game_tree.specs.Date.{date_of}
 use Rattle.game_tree.specs.declared.date.Date.{Date}
@@ -10,12 +11,6 @@ use Rattle.index_entry.specs.declared.entry.Entry.{Entry}
 use Rattle.index_entry.specs.declared.fault.EntryFault.{EntryFault}
 use Rattle.index_entry.specs.declared.fault.EntryFault.TheVariants as faults
 use Rattle.index_entry.specs.Entry.{outcome_of, event_date_of, rating_of, is_bad_rating}
-
-infixl 10 ◌>>=◌
--- The second step, unless the first has a fault.
-abbrev pub ◌>>=◌ : {A B E : Type 0} → Result A E → (A → Result B E) → Result B E
-(Ok x) >>= f = f x
-(Err e) >>= f = Err e
 
 -- The result of a code.
 unfoldable pub outcome_at : ℕ → Result Outcome EntryFault
@@ -52,7 +47,7 @@ half byte i = if nat_eq (i % 2) 0 then byte / 16 else byte % 16
 unfoldable pub home_at : List ℕ → ℕ → ℕ
 home_at bytes i = if nat_lt i (slice_index bytes 38 % 64) then half (slice_index bytes (39 + i / 2)) i else 0
 
--- What the bytes say where they have no fault.
+-- What the bytes say if they have no fault.
 unfoldable pub fields_at : List ℕ → Outcome → ℕ → Date × Date → Rating → Rating → Entry
 fields_at b result eco dates white_rating black_rating = record {
   offset = big_from 0 4 b;

@@ -1,8 +1,8 @@
 //! The fields that searches ask for, each read by itself from the 47 bytes of an entry.
-ghost use Rattle.std.specs.Prelude.{◌≡◌, ◌<◌, ◌/◌, ◌%◌, slice_index};
+ghost use Rattle.std.specs.Prelude.{◌≡◌, ◌<◌, ◌*◌, ◌-◌, ◌/◌, ◌%◌, ◌^◌, ℕ, slice_index};
 ghost use Rattle.index_entry.specs.Entry.{entry_in, outcome_of, rating_of};
 
-use crate::unpacking::{byte_at, home_of, home_value, material_of, quad, split, word};
+use crate::unpacking::{byte_at, home_of, material_of, octet, quad, split, word};
 use game_tree::{Date, Outcome, Rating};
 
 /// Whether the game is marked as deleted.
@@ -195,13 +195,12 @@ pub fn home_count_in(b: &[u8; 47]) -> u8
     byte_at(b, 38) % 64
 }
 
-/// The home value at a place, or 0 past the end of their list.
-#[tactic(auto, using(crate::proofs::ReadLemmas::home_value_read_is), unfolding(crate::specs::Entry::entry_in))]
-pub fn home_value_in(b: &[u8; 47], i: usize) -> u8
-    requires place { i < 16 }
-    ensures value { result ≡ slice_index (entry_in b.now).home i }
+/// The home values as one word, the first of them in its highest four bits. What stands behind them may be anything.
+#[tactic(auto, using(crate::proofs::ReadLemmas::home_word_read_is), unfolding(crate::specs::Entry::entry_in))]
+pub fn home_word_in(b: &[u8; 47]) -> u64
+    ensures values { (i : ℕ) → i < 16 → i < (entry_in b.now).home_count → result / 2 ^ (60 - 4 * i) % 16 ≡ slice_index (entry_in b.now).home i }
 {
-    home_value(b, i)
+    octet(b, 39)
 }
 
 /// The home values, and 0 past the end of their list.

@@ -14,7 +14,7 @@ pub use entry::Entry;
 pub use fault::{EntryFault, IndexFault};
 pub use fields::{
     black_in, black_rating_in, comments_in, date_in, eco_in, event_in, has_own_start_in,
-    has_promotion_in, has_underpromotion_in, home_count_in, home_in, home_value_in, is_deleted_in,
+    has_promotion_in, has_underpromotion_in, home_count_in, home_in, home_word_in, is_deleted_in,
     marks_in, material_in, nags_in, outcome_in, plies_in, round_in, site_in, variations_in,
     white_in, white_rating_in,
 };

@@ -94,6 +94,14 @@ pub(crate) fn quad(b: &[u8; 47], at: usize) -> u32
     BigEndian::read_u32(&b[at..])
 }
 
+// The number of the eight bytes at a place.
+pub(crate) fn octet(b: &[u8; 47], at: usize) -> u64
+    requires { at ≤ 39 }
+    ensures { result ≡ big_from at 8 b.now }
+{
+    BigEndian::read_u64(&b[at..])
+}
+
 // A number of more than sixteen bits.
 pub(crate) fn split(high: u8, low: u16) -> u32
     ensures { result ≡ high * 65536 + low }
@@ -200,7 +208,7 @@ pub(crate) fn home_of(b: &[u8; 47]) -> [u8; 16]
 }
 
 #[tactic(auto, unfolding(crate::specs::Reading::home_at))]
-pub(crate) fn home_value(b: &[u8; 47], i: usize) -> u8
+fn home_value(b: &[u8; 47], i: usize) -> u8
     requires { i < 16 }
     ensures { result ≡ home_at b.now i }
 {

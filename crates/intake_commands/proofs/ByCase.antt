@@ -3,12 +3,9 @@ use Rattle.std.proofs.Common.{ℕ, List, Option, Result, Err, ◌+◌}
 use Rattle.std.specs.Option.{option_map_or}
 use Rattle.std.specs.Prelude.{if◌then◌else◌, is_none, is_some, length, codes, None}
 use Rattle.base_core.specs.Base.{Held}
-use Rattle.demo_games.specs.Demo.{Made}
 use Rattle.game_tree.specs.Game.{GameTree}
-use Rattle.game_tree.specs.Replay.{plies_of}
 use Rattle.game_tree.specs.declared.head.Head.{Head}
 use Rattle.pgn_read.specs.declared.item.Item.{Item}
-use Rattle.intake_commands.specs.Demo.{Adding, with_made}
 use Rattle.intake_commands.specs.Importing.{Intake, first_faulty, line_with, next_number, one_refused, state_with, taken_in, the_new, the_one, unless_line}
 use Rattle.intake_commands.specs.Intakes.{not_added_line}
 use Rattle.shell_state.specs.Lines.{game_line, line_of, no_game_line}
@@ -35,11 +32,3 @@ replace_after s game body = state_with s game (the_new s game body)
 
 abbrev pub replace_text : State → ℕ → List ℕ → List ℕ
 replace_text s game body = line_with game (the_new s game body)
-
-abbrev pub unless_refusal : Option Refusal → Adding → Made → Adding
-unless_refusal why a made =
-    if is_some why then record a { refused = why }
-    else record { state = with_game a.state made.head made.game; number = made.left; plies = a.plies + plies_of made.game; refused = None }
-
-abbrev pub unless_ended : Option Refusal → Adding → Made → Adding
-unless_ended why a made = if is_some why then a else with_made a made

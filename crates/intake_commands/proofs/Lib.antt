@@ -1,7 +1,6 @@
 pub mod ByCase
 pub mod AddLaws
 pub mod BodyLaws
-pub mod DemoLaws
 pub mod IntakeLaws
 pub mod LastLineLaws
 pub mod OneGameLaws

@@ -1,5 +1,3 @@
-pub mod Demo
-pub mod Demoing
 pub mod Ends
 pub mod Importing
 pub mod Intakes

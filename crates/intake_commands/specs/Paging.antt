@@ -24,7 +24,7 @@ is_output (halt.Device stop.Write) = true
 is_output (halt.Device stop.Memory) = true
 is_output _ = false
 
--- What is known behind it: nothing that waits is lost, no count fell, and where a read was refused the body counted a fault, but where a write
+-- What is known behind it: nothing that waits is lost, no count fell, and if a read was refused the body counted a fault, unless a write
 -- ended it first, which has its cause.
 pub record Paging (s : Start) (taken : Option (List ℕ)) (page origin : List ℕ) (input output refused : ℕ) (end : Option Halt) : Type 0 where
   pub kept : adds taken page ≡ adds s.taken s.page

@@ -25,7 +25,7 @@ use pgn_read::{Item, PgnError, Reader};
 use shell_state::{Halt, Machine, game_line, write_full, write_page};
 use std::alloc::Global;
 
-/// import <<WORD: takes the games of a body in, and gives the last line of its text, which is not written yet.
+/// The command `import <<WORD`: takes the games of a body in, and gives the last line of its text, which is not written yet.
 pub fn import<F: Files, B: Source, K: Sink>(
     alloc: Global,
     machine: &mut Machine,
@@ -120,8 +120,8 @@ fn take_in<F: Files, B: Source, K: Sink>(
     Err(Halt::Device(Stop::Memory))
 }
 
-// Takes the next item of the body in, which has this number, and puts its line on the page, and says whether its game was added; none where
-// there is no more item.
+// Takes the next item of the body in, which has this number, and puts its line on the page. Answers whether its game
+// was added, or `None` if there is no more item.
 fn take_next<F: Files, B: Source, K: Sink>(
     alloc: Global,
     machine: &mut Machine,
@@ -194,7 +194,7 @@ fn take_item<F: Files, K: Sink>(
     }
 }
 
-// Puts the line of an item on the page, which is written where that fills it, and says whether its game was added.
+// Puts the line of an item on the page, which is written if that fills it, and says whether its game was added.
 fn put_item<K: Sink>(
     page: &mut Vec<u8>,
     out: &mut K,

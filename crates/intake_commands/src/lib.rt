@@ -1,12 +1,10 @@
-//! The commands that take games in: from Portable Game Notation, in the place of others, and made of draws.
+//! The commands that take games in from Portable Game Notation: behind the others, and in the place of one.
 #![tactic(auto)]
 
-mod demoing;
 mod importing;
 mod item_lines;
 mod paging;
 mod replacing;
 
-pub use demoing::demo;
 pub use importing::import;
 pub use replacing::replace_line;

@@ -35,7 +35,8 @@ enum Only {
     Faulty(u64, GameFault),
 }
 
-/// replace G <<WORD, with the line for it given and not written.
+/// The command `replace G <<WORD`: puts the one game of the body in the place of the game, and gives its line, which is
+/// not written yet.
 pub fn replace_line<F: Files, B: Source>(
     alloc: Global,
     machine: &mut Machine,

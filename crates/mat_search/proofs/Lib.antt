@@ -6,3 +6,4 @@ pub mod WalkLemmas
 pub mod ReadLemmas
 mod PriceLemmas
 pub mod FirstLemmas
+mod LookingLemmas

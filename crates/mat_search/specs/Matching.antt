@@ -38,7 +38,7 @@ matches_at query game ply =
     nat_le query.ply_lo ply && nat_le ply query.ply_hi
     && (is_streak query.range game ply query.streak || (query.swap && is_streak (exchanged query.range) game ply query.streak))
 
--- The first ply of the main line at which it matches, or none where it never does; ply 0 is the start.
+-- The first ply of the main line at which it matches, or none if it never does; ply 0 is the start.
 abbrev pub first_of : MatQuery → GameTree → Option ℕ
 first_of query game = find (matches_at query game) (range_with_len 0 (plies_of game + 1))
 

@@ -21,8 +21,10 @@ can_match_later query other counts = can_come query.range counts || (query.swap 
 unfoldable pub is_over : MatQuery → MatRange → ℕ → List ℕ → Bool
 is_over query other ply counts = nat_le query.ply_hi ply || not (can_match_later query other counts)
 
--- What was kept of the counts of a ply: whether they are in the range, with `swap` in the other one, and whether they can come into them.
+-- What was kept of the counts of a ply: whether they are in the range, with `swap` in the other one, whether they can come
+-- into them, and whether that is all.
 pub record IsStanding (query : MatQuery) (other : MatRange) (standing : Standing) : Type 0 where
   pub in_own : standing.own ≡ in_range query.range standing.counts
   pub in_other : standing.other ≡ (query.swap && in_range other standing.counts)
   pub come : standing.later ≡ can_match_later query other standing.counts
+  pub idles : standing.idle ≡ (not standing.own && not standing.other && standing.later)

@@ -5,14 +5,13 @@ ghost use Rattle.game_tree.specs.Game.{GameTree};
 ghost use Rattle.game_tree.specs.declared.head.Tag.{Tag};
 ghost use Rattle.mat_search.specs.Matching.{first_of};
 
+use crate::looking::{Kept, Told};
 use crate::matching::exchanged;
-use crate::standing::Standing;
-use crate::streaks::{Streaks, is_over};
 use game_codec::{RecordFault, Walk};
 use sig_index::MatQuery;
 
-// The first ply of the main line of a record that matches, or `None` where none does. The walk ends where the answer is known. The
-// fault comes only where the bytes are no record.
+// The first ply of the main line of a record that matches, or `None` if none does. The walk ends when the answer is
+// known. Bytes that give a fault are no record.
 pub(crate) fn first_ply(bytes: &[u8], q: &MatQuery) -> Result<Option<u32>, RecordFault>
     requires few { length bytes.now < 2 ^ 32 }
     requires streak { 1 ≤ q.now.streak }
@@ -21,18 +20,14 @@ pub(crate) fn first_ply(bytes: &[u8], q: &MatQuery) -> Result<Option<u32>, Recor
 {
     let exchanged = exchanged(&q.range);
     let mut walk = Walk::new(bytes)?;
-    let mut streaks = Streaks::none();
-    let mut standing = Standing::of(q, &exchanged, walk.position().census());
+    let mut kept = Kept::at_first(q, &exchanged, walk.position().census());
     loop {
         let ply = walk.ply();
-        standing.follow(q, &exchanged, walk.position().census());
-        streaks = streaks.after(q, ply, &standing);
-        if streaks.is_whole(q) {
+        match kept.look(q, &exchanged, ply, walk.position().census()) {
             // The streak ends at this ply.
-            return Ok(Some(ply.saturating_sub(q.streak - 1)));
-        }
-        if streaks.is_none() && is_over(q, ply, &standing) {
-            return Ok(None);
+            Told::Found => return Ok(Some(ply.saturating_sub(q.streak - 1))),
+            Told::Over => return Ok(None),
+            Told::Open => {}
         }
         match walk.step() {
             Ok(Some(_)) => {}

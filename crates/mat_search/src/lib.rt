@@ -3,6 +3,7 @@
 
 mod first_ply;
 mod laws;
+mod looking;
 mod matching;
 mod searching;
 mod standing;

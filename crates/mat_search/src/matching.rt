@@ -5,7 +5,7 @@ ghost use Rattle.mat_search.specs.Passing.{can_be_in, can_match, is_long, passes
 
 use sig_index::{Brief, MatQuery, MatRange, can_have, can_stand};
 
-/// Whether a game with this signature can match: where it cannot, no ply of its main line matches. A streak has at least one ply.
+/// Whether a game with this signature can match: if it cannot, no ply of its main line matches. A streak has at least one ply.
 #[tactic(auto, unfolding(crate::specs::Passing::passes))]
 pub fn passes(s: &Brief<'_>, q: &MatQuery) -> bool
     requires streak { 1 ≤ q.now.streak }

@@ -55,10 +55,10 @@ impl<'a> Question for Counts<'a> {
     }
 }
 
-/// Leaves in the filter what its entries become by a search of counts of men. The filter has one entry per game, a streak has at least
-/// one ply, and `buf` has at least 131,072 bytes. A game is read where `op` looks at it and it can match, and so many bytes count as
-/// asked. After an error the games from one on have their old entries, and where the files tell what they hold those before it their new
-/// ones; if the error names a game, it is that one.
+/// Leaves in the filter what its entries become by a search of counts of men. The filter has one entry per game, a
+/// streak has at least one ply, and `buf` has at least 131,072 bytes. A game is read if `op` looks at it and it can
+/// match, and so many bytes count as asked. After an error the games from one on have their old entries; if the error
+/// names a game, it is that one. The games before it have their new entries, if the files tell what they hold.
 pub fn search<G: Games, F: Files>(
     games: &G,
     q: &MatQuery,

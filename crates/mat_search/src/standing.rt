@@ -1,4 +1,4 @@
-//! What a query says of the counts on the board, which is asked again only where they change.
+//! What a query says of the counts on the board, which is asked again only after they change.
 ghost use Rattle.std.specs.Prelude.{◌≡◌};
 ghost use Rattle.mat_search.specs.Streaks.{IsStanding, can_match_later};
 
@@ -7,13 +7,14 @@ use chess_laws::Counts;
 use sig_index::{MatQuery, MatRange, can_come};
 
 // The counts of a ply, whether they are in the range of a query, whether its `swap` lets them be in the exchanged one and they are, and
-// whether they can still come into one of these.
+// whether they can still come into one of these. They are idle where they are in neither and can.
 #[derive(Clone, Copy, Debug, PartialEq, Eq)]
 pub(crate) struct Standing {
     pub(crate) counts: Counts,
     pub(crate) own: bool,
     pub(crate) other: bool,
     pub(crate) later: bool,
+    pub(crate) idle: bool,
 }
 
 impl Standing {
@@ -24,11 +25,15 @@ impl Standing {
         ensures stands { IsStanding q.now other.now result }
     {
         let numbers = counts.numbers();
+        let own = in_range(&q.range, &numbers);
+        let in_other = q.swap && in_range(other, &numbers);
+        let later = can_match_later(q, other, &numbers);
         Standing {
             counts: *counts,
-            own: in_range(&q.range, &numbers),
-            other: q.swap && in_range(other, &numbers),
-            later: can_match_later(q, other, &numbers),
+            own,
+            other: in_other,
+            later,
+            idle: !own && !in_other && later,
         }
     }
 

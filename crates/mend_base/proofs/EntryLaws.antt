@@ -1,13 +1,11 @@
 -- The header and the number of entries of an index.
-use Rattle.std.proofs.Common.{◌≡◌, ◌≤◌, ◌<◌, ◌+◌, ◌-◌, ◌*◌, ◌/◌, ℕ, min, Bool, true, false, not, nat_eq, nat_lt, if◌then◌else◌, List, length, take, Result, Ok, Err, refl, sym, ap, ◌∙◌, subst, ◌⊎◌, inl, inr, arith, div-mul-le_self}
-use Rattle.std.specs.Str.{bytes_eq}
+use Rattle.std.proofs.Common.{◌≡◌, ◌≤◌, ◌<◌, ◌+◌, ◌-◌, ◌*◌, ◌/◌, ℕ, Bool, true, false, nat_lt, if◌then◌else◌, List, length, Result, Ok, Err, refl, sym, ◌⊎◌, inl, inr, arith, div-mul-le_self}
 use Rattle.std.proofs.lemmas.Bool.{ltb-false}
 use Rattle.std.proofs.lemmas.Nat.{le-div}
-use Rattle.index_entry.specs.Index.{head_in, header_read, index_read, magic, number_in}
+use Rattle.index_entry.specs.Index.{header_read}
 use Rattle.index_entry.specs.declared.fault.IndexFault.{IndexFault}
-use Rattle.index_entry.specs.declared.fault.IndexFault.TheVariants.{Games, Length, Magic, Short, Version}
+use Rattle.index_entry.specs.declared.fault.IndexFault.TheVariants.{Magic, Short, Version}
 use Rattle.index_entry.specs.declared.index.IndexHead.{IndexHead}
-use Rattle.index_entry.proofs.HeaderLemmas.{index-header, then_length}
 use Rattle.mend_base.specs.Entries.{entries_found, head_found}
 use Rattle.mend_base.specs.Finding.{HasEntry}
 
@@ -26,27 +24,6 @@ found-all index games few room =
     omega (arith, few, all)
 
 -- ---- the header of an index without a fault.
-
-step_ok : {A : Type 0} (b : Bool) (fault : IndexFault) (rest : Result A IndexFault) (x : A) → (if b then Err fault else rest) ≡ Ok x → (b ≡ false) × (rest ≡ Ok x)
-step_ok true fault rest x is = absurd cc
-step_ok false fault rest x is = (refl, is)
-
-pub header-few : (bytes : List ℕ) (head : IndexHead) → header_read bytes ≡ Ok head → head.games ≤ 16777214
-unfolding header_read head_in
-header-few bytes head is =
-    let one = step_ok (nat_lt (length bytes) 182) (Short (length bytes)) _ head is in
-    let two = step_ok (not (bytes_eq (take 8 bytes) magic)) Magic _ head one.1 in
-    let three = step_ok (not (nat_eq (number_in 8 2 bytes) 400)) (Version (number_in 8 2 bytes)) _ head two.1 in
-    let four = step_ok (nat_lt 16777214 (number_in 14 3 bytes)) (Games (number_in 14 3 bytes)) (Ok (head_in bytes)) head three.1 in
-    let same : head_in bytes ≡ head = cc in
-    subst (λ (h : IndexHead). h.games ≤ 16777214) same (ltb-false 16777214 (number_in 14 3 bytes) four.0)
-
-then_ok : (bytes : List ℕ) (r : Result IndexHead IndexFault) (head : IndexHead) → then_length bytes r ≡ Ok head → r ≡ Ok head
-then_ok bytes (Err fault) head is = is
-then_ok bytes (Ok found) head is = (step_ok (nat_lt (length bytes) (182 + 47 * found.games)) (Length (length bytes)) (Ok found) head is).1
-
-pub header-read : (bytes : List ℕ) (head : IndexHead) → index_read bytes ≡ Ok head → header_read bytes ≡ Ok head
-header-read bytes head is = then_ok bytes (header_read bytes) head (sym (index-header bytes) ∙ is)
 
 pub header-found : (bytes : List ℕ) (head : IndexHead) → header_read bytes ≡ Ok head → head_found bytes ≡ Ok head
 unfolding head_found
@@ -77,7 +54,3 @@ long-version bytes version is =
       | inl short ↦ absurd cc
       | inr long ↦ long
     ]
-
-pub long-read : (bytes : List ℕ) (head : IndexHead) → Ok head ≡ header_read bytes → 182 ≤ length bytes
-unfolding header_read
-long-read bytes head is = ltb-false (length bytes) 182 (step_ok (nat_lt (length bytes) 182) (Short (length bytes)) _ head (sym is)).0

@@ -12,7 +12,7 @@ use Rattle.index_entry.specs.declared.entry.Entry.{Entry}
 use Rattle.index_entry.specs.declared.fault.IndexFault.{IndexFault}
 use Rattle.index_entry.specs.declared.fault.IndexFault.TheVariants.{Length}
 use Rattle.index_entry.specs.declared.index.IndexHead.{IndexHead}
-use Rattle.index_entry.proofs.HeaderLemmas.{index-whole}
+use Rattle.index_entry.proofs.HeaderLemmas.{header-few, header-read, index-whole}
 use Rattle.name_base.specs.NameLists.{NameLists}
 use Rattle.name_base.specs.PartNames.{PartLists, all_known, filled, filled_names, names_in_part}
 use Rattle.name_base.proofs.PartLemmas.{AreFew, all-filled, all-met, length-filled, read-whole}
@@ -33,7 +33,7 @@ use Rattle.mend_base.specs.Notes.{all_notes, notes_from, notes_of_count, notes_o
 use Rattle.mend_base.specs.declared.report.Note.{Note}
 use Rattle.mend_base.specs.declared.report.Note.TheVariants as line
 use Rattle.mend_base.specs.Places.{Found, Place, change_in, games_of, held_by, missing_in, place_of, places_of}
-use Rattle.mend_base.proofs.EntryLaws.{found-all, header-few, header-found, header-read}
+use Rattle.mend_base.proofs.EntryLaws.{found-all, header-found}
 use Rattle.mend_base.proofs.FieldLaws.{known-read, no-fault}
 use Rattle.mend_base.proofs.FindLaws.{held-by, read-place}
 use Rattle.mend_base.proofs.PlaceLaws.{games-first, games-more, notes-more}

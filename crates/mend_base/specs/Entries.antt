@@ -18,7 +18,7 @@ abbrev pub if_it_fits : List ℕ → IndexFault → Result IndexHead IndexFault 
 if_it_fits index fault (Ok head) = if nat_eq (length index) (182 + 47 * head.games) then Ok head else Err fault
 if_it_fits index fault (Err other) = Err fault
 
--- The header that is read, or for a magic or a version that is none the one behind it where it fits.
+-- The header that is read, or for a magic or a version that is none the one behind it if it fits.
 abbrev pub head_tried : List ℕ → Result IndexHead IndexFault → Result IndexHead IndexFault
 head_tried index (Ok head) = Ok head
 head_tried index (Err Magic) = if_it_fits index Magic (header_read (renewed index))

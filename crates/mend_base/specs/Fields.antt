@@ -1,4 +1,4 @@
--- What an entry says of a game where a field of it stands for nothing: the field is as if it was not given (this project's own, over Scid's format
+-- What an entry says of a game if a field of it stands for nothing: the field is as if it was not given (this project's own, over Scid's format
 -- si4).
 use Rattle.std.specs.Prelude.{ℕ, ◌||◌, nat_lt, if◌then◌else◌, List}
 use Rattle.game_tree.specs.Date.{unknown_date}

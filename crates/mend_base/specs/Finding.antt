@@ -1,4 +1,4 @@
--- What is found of a game, as the functions of this crate go through it.
+-- What is found of a game, as the functions of this crate go through it (this project's own).
 use Rattle.std.specs.Prelude.{◌≡◌, ◌≤◌, ◌+◌, ◌*◌, ⊤, ℕ, zero, suc, List, length, take, Option, Ok, Err, IfSome}
 use Rattle.base_files.specs.Told.{Tells, part_told}
 use Rattle.index_entry.specs.Entry.{IsEntry, entry_in}

@@ -19,8 +19,8 @@ use Rattle.mend_base.specs.declared.fault.MendError.TheVariants as error
 use Rattle.mend_base.specs.declared.mending.Mended.{Mended}
 use Rattle.mend_base.specs.declared.report.Note.{Note}
 
--- A base was mended: all notes were told, in order, and where the new files are told they mean the base of the games that come over, in order,
--- and open as it, with no fault however strict the opening is.
+-- A base was mended: all notes were told, in order. If the new files are told, they mean the base of the games that
+-- come over, in order. They open as it, with no fault however strict the opening is.
 pub record Mends (index : List ℕ) (names : PartLists) (games : List ℕ) (before after : Option (List Note)) (new : Seen) (mended : Mended) : Type 0 where
   pub header : IndexHead
   pub read : head_found index ≡ Ok header

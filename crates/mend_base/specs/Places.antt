@@ -3,6 +3,7 @@
 -- `?` in its place.
 use Rattle.std.specs.Prelude.{◌+◌, ℕ, zero, suc, not, if◌then◌else◌, List, [], ◌∷◌, ◌++◌, length, Option, None, Some, is_some, Result, Ok, Err}
 use Rattle.base_files.specs.Extents.{record_in}
+use Rattle.cell_core.specs.Steps.{blamed, ◌>>=◌}
 use Rattle.game_codec.specs.RecordAnswer.{record_answer}
 use Rattle.game_tree.specs.Game.{GameTree}
 use Rattle.game_tree.specs.Settle.{settled}
@@ -14,11 +15,10 @@ use Rattle.index_entry.specs.declared.fault.EntryFault.{EntryFault}
 use Rattle.index_entry.specs.declared.index.IndexHead.{IndexHead}
 use Rattle.name_base.specs.NameLists.{NameLists}
 use Rattle.name_base.specs.PartNames.{PartLists, filled_names, name_met}
-use Rattle.name_base.specs.Reading.{◌>>=◌}
 use Rattle.base_core.specs.Base.{Base, Held, empty_base}
 use Rattle.base_core.specs.Compacted.{only}
 use Rattle.base_core.specs.Entries.{extent_of, head_of}
-use Rattle.base_core.specs.FirstFault.{blamed, place_fault, unless}
+use Rattle.base_core.specs.FirstFault.{place_fault, unless}
 use Rattle.base_core.specs.declared.fault.BaseFault.{BaseFault}
 use Rattle.base_core.specs.declared.fault.BaseFault.TheVariants.{EntryField, Id, Packed, Place as PlaceFault}
 use Rattle.base_core.specs.declared.fault.IdField.{IdField}

@@ -70,7 +70,7 @@ pub(crate) fn report_error(failed: DeviceError) -> MendError
     }
 }
 
-// The error where the draft does not take a game.
+// The error if the draft does not take a game.
 pub(crate) fn not_taken_error(refused: EditError) -> MendError
     ensures error { result ≡ not_taken_error refused }
 {

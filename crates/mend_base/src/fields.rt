@@ -1,4 +1,4 @@
-//! What an entry says of a game where a field of it stands for nothing.
+//! What an entry says of a game if a field of it stands for nothing.
 ghost use Rattle.std.specs.Prelude.{◌≡◌, Option};
 ghost use Rattle.index_entry.specs.Entry.{IsEntry, entry_in, event_date_of, fault_in};
 ghost use Rattle.mend_base.specs.Fields.{date_known, eco_known, event_date_known, known_in, rating_known};

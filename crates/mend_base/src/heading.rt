@@ -37,7 +37,7 @@ pub(crate) fn find_header(index: &[u8]) -> Result<IndexHead, IndexFault>
     }
 }
 
-// The header behind the first ten bytes of an index, where it counts just the entries that the index has.
+// The header behind the first ten bytes of an index, if it counts just the entries that the index has.
 fn header_that_fits(index: &[u8], fault: IndexFault) -> Result<IndexHead, IndexFault>
     requires long { 182 ≤ length index.now }
     ensures exact { result ≡ if_it_fits index.now fault (header_read (renewed index.now)) }
@@ -68,7 +68,7 @@ pub(crate) fn entries_found(index: &[u8]) -> u32
     ((index.len() - HEADER_LEN) / ENTRY_LEN).min(MAX_GAMES) as u32
 }
 
-/// Tells of the index: the fault of its header where its entries are mended all the same, and that its header counts other games than it has.
+/// Tells of the index: the fault of its header if its entries are mended all the same, and that its header counts other games than it has.
 pub(crate) fn tell_header<R: Report>(
     report: &mut R,
     index: &[u8],

@@ -1,4 +1,4 @@
-//! Laws of what comes over.
+//! Laws of the games that come over.
 ghost use Rattle.std.specs.Prelude.{◌≡◌, ◌<◌, ℕ, Bool, List, [], false};
 ghost use Rattle.index_entry.specs.Index.{entry_bytes};
 ghost use Rattle.base_core.specs.Base.{Base as PlainBase};

@@ -33,14 +33,19 @@ pub struct Mended {
     pub of: u32,
 }
 
-/// Makes new files of every game of the old ones whose record is whole, in order, without those fields of its entry that stand for nothing,
-/// with its names as far as the names file goes and `?` for each that is missing, and tells of each game that is left out or changed. The
-/// games are those that have an entry, whatever the index counts. Each record is read once, into `buf`.
+/// Makes new files of every game of the old ones whose record is whole, in order, and tells of each game that is left
+/// out or changed. A game loses those fields of its entry that stand for nothing. It has its names as far as the names
+/// file goes, and `?` for each that is missing. The games are those that have an entry, whatever the index counts. Each
+/// record is read once, into `buf`.
 ///
 /// # Errors
 ///
-/// `Bad` exactly where no header of the old index is found; `Full` where the new base would pass a limit; `OldFailed`, `NewFailed` and
-/// `ReportFailed` where a device fails, and `Memory`. The current files of the new base are then as they were.
+/// - `Bad` if no header of the old index is found.
+/// - `Full` if the new base would pass a limit.
+/// - `OldFailed`, `NewFailed` and `ReportFailed` if a device fails.
+/// - `Memory` for want of memory.
+///
+/// The current files of the new base are then as they were.
 pub fn mend<F: Files, N: Files, R: Report>(
     alloc: Global,
     old: &mut F,

@@ -1,7 +1,8 @@
 -- A record's marks are told from packed moves by their byte, and bytes decode to one answer.
 use Rattle.move_codec.proofs.Words.{◌≡◌, ℕ, ◌+◌, ◌*◌, ◌<◌, ◌≤◌, false, cond, List, ◌∷◌, ◌++◌, Some, Ok, Err, length, slice_get, refl, sym, ◌∙◌, ap, subst, arith, Result, nat_tests, same_Some, Colour, King, Move, Men, man_at, same_kind, Sound, king_square, Legal, man-kind, is_man-true, king-stands, MoveFault, Short, NoMan, Value, Illegal, Numbered, AreNumbers, number_of, squares_of, Decodes, encoding, is_mark, named, rest_of, value_of}
 use Rattle.move_codec.proofs.Cases.{Mover}
-use Rattle.move_codec.proofs.Decoding.{named-fits, same_ok}
+use Rattle.move_codec.proofs.DecodedLaws.{from_decodes}
+use Rattle.move_codec.proofs.Decoding.{named-fits}
 use Rattle.move_codec.proofs.Boards.{numbering_of}
 use Rattle.move_codec.proofs.RoundTrip.{encoding-mover, has_number, mover_of, round_trip}
 
@@ -41,31 +42,8 @@ encode-told n now is m sound numbers legal items bytes =
     rw bytes (round_trip now m kept.squares numbered legal, encoding-apart now m kept numbered legal)
 
 -- What bytes decode to is one answer
-
--- an answer is what is named, a legal move if it is one, or the refusal of an illegal one
-data Judged (n : Numbered) (bytes : List ℕ) (a : Result (Move × ℕ) MoveFault) : Type 0 where
-  told : named n bytes ≡ a → ((d : Move × ℕ) → a ≡ Ok d → Legal n.position d.0) → Judged n bytes a
-  illegal : (d : Move × ℕ) → named n bytes ≡ Ok d → (Legal n.position d.0 → ⊥) → a ≡ Err Illegal → Judged n bytes a
-
-judged : (n : Numbered) (bytes : List ℕ) (a : Result (Move × ℕ) MoveFault) → Decodes n bytes a → Judged n bytes a
-judged n bytes (Ok d) h = told h.0 (λ e is. subst (λ k. Legal n.position k.0) (same_ok d e is) h.1)
-judged n bytes (Err Short) h = told h (λ e is. absurd (cc))
-judged n bytes (Err NoMan) h = told h (λ e is. absurd (cc))
-judged n bytes (Err Value) h = told h (λ e is. absurd (cc))
-judged n bytes (Err Illegal) (d, h) = illegal d h.0 h.1 refl
-
 pub Decodes-one : (n : Numbered) (bytes : List ℕ) (a b : Result (Move × ℕ) MoveFault) → Decodes n bytes a → Decodes n bytes b → a ≡ b
-Decodes-one n bytes a b first second =
-    elim (judged n bytes a first) [
-      | told is_a legal_a ↦ elim (judged n bytes b second) [
-        | told is_b legal_b ↦ sym is_a ∙ is_b
-        | illegal d named_b not_b is_b ↦ absurd (not_b (legal_a d (sym is_a ∙ named_b)))
-      ]
-      | illegal d named_a not_a is_a ↦ elim (judged n bytes b second) [
-        | told is_b legal_b ↦ absurd (not_a (legal_b d (sym is_b ∙ named_a)))
-        | illegal e named_b not_b is_b ↦ is_a ∙ sym is_b
-      ]
-    ]
+Decodes-one n bytes a b first second = sym (from_decodes n bytes a first) ∙ from_decodes n bytes b second
 
 -- How many bytes an answer takes
 

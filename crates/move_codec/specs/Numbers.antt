@@ -24,12 +24,12 @@ abbrev pub squares_of : Colour → Numbers → List ℕ
 squares_of White numbers = numbers.white
 squares_of Black numbers = numbers.black
 
--- The number of the man on a square, or how many men there are where none of them stands there.
+-- The number of the man on a square, or how many men there are if none of them stands there.
 abbrev pub number_of : List ℕ → ℕ → ℕ
 number_of squares square = position_or_len (λ s. s == square) squares
 
--- The numbers on two ranks that begin with these squares: the king on file e is 0, the men on the files a, b, c, d, f,
--- g, h of his rank are 1 to 7, and the pawns from file a to file h are 8 to 15.
+-- The numbers on two ranks that begin with these squares. The king on file e is 0, the men on the files a, b, c, d, f,
+-- g, h of its rank are 1 to 7, and the pawns from file a to file h are 8 to 15.
 abbrev pub start_ranks : ℕ → ℕ → List ℕ
 start_ranks back pawns =
     (back + 4) ∷ back ∷ (back + 1) ∷ (back + 2) ∷ (back + 3) ∷ (back + 5) ∷ (back + 6) ∷ (back + 7)

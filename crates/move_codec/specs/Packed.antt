@@ -19,7 +19,7 @@ use Rattle.move_codec.specs.declared.fault.MoveFault.TheVariants.{Short, NoMan, 
 -- The square that a value names.
 
 -- A difference is written 64 + difference, since it may be below zero: the square whose number is greater by it, or none
--- where no square has that number.
+-- if no square has that number.
 abbrev pub at_difference : ℕ → ℕ → Option ℕ
 at_difference from difference =
     if nat_le 64 (from + difference) && nat_lt (from + difference) 128 then Some (from + difference - 64) else None
@@ -36,12 +36,12 @@ knight_differences = 0 ∷ 47 ∷ 49 ∷ 54 ∷ 58 ∷ 70 ∷ 74 ∷ 79 ∷ 81 �
 abbrev pub by_difference : List ℕ → ℕ → ℕ → Option ℕ
 by_difference differences from value = option_and_then (λ difference. at_difference from difference) (slice_get differences value)
 
--- A square of this file and rank, or none where there is no such rank or where it is the man's own square.
+-- A square of this file and rank, or none if the rank is none or the square is the man's own.
 abbrev pub other_square : ℕ → ℕ → ℕ → Option ℕ
 other_square from file rank =
     if nat_lt rank 8 && not (square file rank == from) then Some (square file rank) else None
 
--- Rook, and queen along a line: the target's file where the rank stays, else 8 + the target's rank.
+-- Rook, and queen along a line: the target's file if the rank stays, else 8 + the target's rank.
 abbrev pub on_line : ℕ → ℕ → Option ℕ
 on_line from value =
     if nat_lt value 8 then other_square from value (rank_of from) else other_square from (file_of from) (value - 8)
@@ -50,7 +50,7 @@ on_line from value =
 abbrev pub on_file : ℕ → ℕ → ℕ → ℕ → Option ℕ
 on_file from file sum less = if nat_le less sum then other_square from file (sum - less) else None
 
--- Bishop: the target's file where rank less file stays, or 8 + the target's file where rank plus file stays.
+-- Bishop: the target's file if rank less file stays, or 8 + the target's file if rank plus file stays.
 abbrev pub on_diagonal : ℕ → ℕ → Option ℕ
 on_diagonal from value =
     if nat_lt value 8
@@ -91,7 +91,7 @@ diagonal_square from byte =
 
 -- The move that bytes name.
 
--- A move to the square that a value names, with the number of its bytes, or the fault where the value names none.
+-- A move to the square that a value names, with the number of its bytes, or the fault if the value names none.
 abbrev pub to_square : ℕ → Option Kind → ℕ → Option ℕ → Result (Move × ℕ) MoveFault
 to_square from promo bytes None = Err Value
 to_square from promo bytes (Some to) = Ok (record { «from» = from; to = to; promo = promo }, bytes)
@@ -101,7 +101,7 @@ abbrev pub diagonal_move : ℕ → List ℕ → Result (Move × ℕ) MoveFault
 diagonal_move from [] = Err Short
 diagonal_move from (byte ∷ rest) = to_square from None 2 (diagonal_square from byte)
 
--- The move of a man of this kind and side on a square, by its value and the bytes after it. A queen's value that is her
+-- The move of a man of this kind and side on a square, by its value and the bytes after it. A queen's value that is its
 -- own file opens a diagonal move.
 unfoldable pub named_value : Kind → Colour → ℕ → ℕ → List ℕ → Result (Move × ℕ) MoveFault
 named_value King side from value rest = to_square from None 1 (by_difference king_differences from value)
@@ -116,7 +116,7 @@ abbrev pub named_by : Option Man → Colour → ℕ → ℕ → List ℕ → Res
 named_by None side from value rest = Err NoMan
 named_by (Some man) side from value rest = named_value man.kind side from value rest
 
--- The move of the man with a number, by his square.
+-- The move of the man with a number, by its square.
 abbrev pub named_from : Numbered → Option ℕ → ℕ → List ℕ → Result (Move × ℕ) MoveFault
 named_from n None value rest = Err NoMan
 named_from n (Some from) value rest = named_by (man_at n.position.board from) n.position.side from value rest
@@ -143,7 +143,7 @@ judged n (Err fault) = Err fault
 unfoldable pub decoded : Numbered → List ℕ → Result (Move × ℕ) MoveFault
 decoded n bytes = judged n (named n bytes)
 
--- Where two of these bytes are a move, the second is at least 64, as no first byte need be.
+-- If two of these bytes are a move, the second is at least 64, as no first byte need be.
 abbrev pub HasHighSecond : List ℕ → ℕ → Type 0
 HasHighSecond bytes size = (byte : ℕ) → size ≡ 2 → slice_get bytes 1 ≡ Some byte → 64 ≤ byte
 
@@ -153,11 +153,11 @@ HasHighSecond bytes size = (byte : ℕ) → size ≡ 2 → slice_get bytes 1 ≡
 abbrev pub difference_value : List ℕ → Move → ℕ
 difference_value differences m = position_or_len (λ difference. difference == 64 + m.to - m.from) differences
 
--- Along a line: the target's file where the rank stays, else 8 + the target's rank.
+-- Along a line: the target's file if the rank stays, else 8 + the target's rank.
 abbrev pub line_value : Move → ℕ
 line_value m = if rank_of m.to == rank_of m.from then file_of m.to else 8 + rank_of m.to
 
--- Along a diagonal: the target's file where rank less file stays, else 8 + the target's file.
+-- Along a diagonal: the target's file if rank less file stays, else 8 + the target's file.
 abbrev pub diagonal_value : Move → ℕ
 diagonal_value m = if rank_of m.to + file_of m.from == rank_of m.from + file_of m.to then file_of m.to else 8 + file_of m.to
 

@@ -5,6 +5,7 @@ ghost use Rattle.cell_core.specs.Board.{man_at};
 ghost use Rattle.cell_core.specs.Man.{man};
 ghost use Rattle.chess_laws.specs.Position.{start_setup};
 ghost use Rattle.chess_laws.specs.Step.{Legal, Step};
+ghost use Rattle.move_codec.specs.Advance.{Advances, IsFirst};
 ghost use Rattle.move_codec.specs.Numbers.{numbers_after, squares_of, standard_numbers, text_numbers};
 ghost use Rattle.move_codec.specs.Packed.{Decodes, HasHighSecond, decoded, diagonal_move, encoding, is_mark, named, named_value, rest_of, to_square, value_of};
 
@@ -80,6 +81,14 @@ impl Numbered {
         ensures used { IfOk result (λ decoded. (0 < decoded.1) × ((decoded.1 ≤ 2) × (decoded.1 ≤ length bytes.now))) }
         ensures second { IfOk result (λ decoded. HasHighSecond bytes.now decoded.1) }
     {
+        self.decode(bytes)
+    }
+
+    /// `decode_move` by what the bytes name and whether it is legal.
+    #[tactic(auto, unfolding(crate::specs::Packed::decoded))]
+    fn decode(&self, bytes: &[u8]) -> Result<(Move, u8), MoveFault>
+        ensures { result ≡ decoded self.now bytes.now }
+    {
         let (m, used) = self.named(bytes)?;
         if self.position.is_legal(Move {
             from: m.from,
@@ -119,12 +128,7 @@ impl Numbered {
     /// `advance`, by the man with the number of the first byte.
     #[inline(always)]
     fn advance_first(&mut self, bytes: &[u8]) -> Result<(Move, u8), MoveFault>
-        ensures decodes { Decodes self.old bytes.now result }
-        ensures used { IfOk result (λ decoded. (0 < decoded.1) × ((decoded.1 ≤ 2) × (decoded.1 ≤ length bytes.now))) }
-        ensures second { IfOk result (λ decoded. HasHighSecond bytes.now decoded.1) }
-        ensures step { IfOk result (λ decoded. Step self.old.position decoded.0 self.new.position) }
-        ensures numbers { IfOk result (λ decoded. self.new.numbers ≡ numbers_after self.old.position decoded.0 self.old.numbers) }
-        ensures kept { IfErr result (λ _. self.new ≡ self.old) }
+        ensures advances { Advances self.old bytes.now result self.new }
     {
         let [byte, rest @ ..] = bytes else {
             return Err(MoveFault::Short);
@@ -148,15 +152,8 @@ impl Numbered {
         bytes: &[u8],
         rest: &[u8],
     ) -> Result<(Move, u8), MoveFault>
-        requires stands { man_at self.old.position.board from ≡ Some (man self.old.position.side kind) }
-        requires number { slice_get (squares_of self.old.position.side self.old.numbers) (slice_index_or bytes.now 0 0 / 16) ≡ Some from }
-        requires named { named self.old bytes.now ≡ named_value kind self.old.position.side from (slice_index_or bytes.now 0 0 % 16) rest.now }
-        ensures decodes { Decodes self.old bytes.now result }
-        ensures used { IfOk result (λ decoded. (0 < decoded.1) × ((decoded.1 ≤ 2) × (decoded.1 ≤ length bytes.now))) }
-        ensures second { IfOk result (λ decoded. HasHighSecond bytes.now decoded.1) }
-        ensures step { IfOk result (λ decoded. Step self.old.position decoded.0 self.new.position) }
-        ensures numbers { IfOk result (λ decoded. self.new.numbers ≡ numbers_after self.old.position decoded.0 self.old.numbers) }
-        ensures kept { IfErr result (λ _. self.new ≡ self.old) }
+        requires first { IsFirst self.old kind from bytes.now rest.now }
+        ensures advances { Advances self.old bytes.now result self.new }
     {
         match self.position.side() {
             Colour::White => self.advance_kind(Colour::White, kind, from, bytes, rest),
@@ -175,15 +172,8 @@ impl Numbered {
         rest: &[u8],
     ) -> Result<(Move, u8), MoveFault>
         requires side { side ≡ self.old.position.side }
-        requires stands { man_at self.old.position.board from ≡ Some (man self.old.position.side kind) }
-        requires number { slice_get (squares_of self.old.position.side self.old.numbers) (slice_index_or bytes.now 0 0 / 16) ≡ Some from }
-        requires named { named self.old bytes.now ≡ named_value kind self.old.position.side from (slice_index_or bytes.now 0 0 % 16) rest.now }
-        ensures decodes { Decodes self.old bytes.now result }
-        ensures used { IfOk result (λ decoded. (0 < decoded.1) × ((decoded.1 ≤ 2) × (decoded.1 ≤ length bytes.now))) }
-        ensures second { IfOk result (λ decoded. HasHighSecond bytes.now decoded.1) }
-        ensures step { IfOk result (λ decoded. Step self.old.position decoded.0 self.new.position) }
-        ensures numbers { IfOk result (λ decoded. self.new.numbers ≡ numbers_after self.old.position decoded.0 self.old.numbers) }
-        ensures kept { IfErr result (λ _. self.new ≡ self.old) }
+        requires first { IsFirst self.old kind from bytes.now rest.now }
+        ensures advances { Advances self.old bytes.now result self.new }
     {
         match kind {
             Kind::King => self.advance_man(side, Kind::King, from, bytes, rest),
@@ -206,15 +196,8 @@ impl Numbered {
         rest: &[u8],
     ) -> Result<(Move, u8), MoveFault>
         requires side { side ≡ self.old.position.side }
-        requires stands { man_at self.old.position.board from ≡ Some (man self.old.position.side kind) }
-        requires number { slice_get (squares_of self.old.position.side self.old.numbers) (slice_index_or bytes.now 0 0 / 16) ≡ Some from }
-        requires named { named self.old bytes.now ≡ named_value kind self.old.position.side from (slice_index_or bytes.now 0 0 % 16) rest.now }
-        ensures decodes { Decodes self.old bytes.now result }
-        ensures used { IfOk result (λ decoded. (0 < decoded.1) × ((decoded.1 ≤ 2) × (decoded.1 ≤ length bytes.now))) }
-        ensures second { IfOk result (λ decoded. HasHighSecond bytes.now decoded.1) }
-        ensures step { IfOk result (λ decoded. Step self.old.position decoded.0 self.new.position) }
-        ensures numbers { IfOk result (λ decoded. self.new.numbers ≡ numbers_after self.old.position decoded.0 self.old.numbers) }
-        ensures kept { IfErr result (λ _. self.new ≡ self.old) }
+        requires first { IsFirst self.old kind from bytes.now rest.now }
+        ensures advances { Advances self.old bytes.now result self.new }
     {
         let (m, used) = self.named_by(side, kind, from, bytes, rest)?;
         if self.follow_legal(kind, &m, first_byte(bytes) / 16) {
@@ -274,7 +257,7 @@ impl Numbered {
     {
         let side = self.position.setup().side;
         let effect = self.position.effect(m);
-        self.position.play(*m);
+        self.position.play_as(m, effect);
         self.numbers.follow(side, m, effect);
     }
 
@@ -289,7 +272,7 @@ impl Numbered {
     }
 
     /// The bytes of a legal move: two of a queen's diagonal move, one of any other. They decode to the move, whatever
-    /// follows them, and never begin with a byte from 11 to 15: a king's values end at 10, and his number is always 0.
+    /// follows them. They never begin with a byte from 11 to 15: a king's values end at 10, and its number is always 0.
     pub fn encode_move(&self, m: Move) -> ArrayVec<u8, 2>
         requires { Legal self.now.position m }
         ensures bytes { result.items ≡ encoding self.now m }
@@ -332,7 +315,7 @@ impl Numbered {
     }
 }
 
-/// The first byte, or 0 where there is none.
+/// The first byte, or 0 if there is none.
 #[inline(always)]
 fn first_byte(bytes: &[u8]) -> u8
     ensures byte { result ≡ slice_index_or bytes.now 0 0 }

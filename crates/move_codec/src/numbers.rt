@@ -83,14 +83,14 @@ impl NumberedMen {
         self.squares.as_slice()
     }
 
-    /// The square of the man with this number, or `None` where the side has no such man.
+    /// The square of the man with this number, or `None` if the side has no such man.
     pub fn get(&self, number: u8) -> Option<Square>
         ensures square { result ≡ slice_get self.now number }
     {
         self.squares.as_slice().get(number as usize).copied()
     }
 
-    /// The number of the man on this square, or how many men there are where none of them stands there.
+    /// The number of the man on this square, or how many men there are if none of them stands there.
     pub fn number_of(&self, square: Square) -> usize
         ensures number { result ≡ number_of self.now square }
         ensures few { length self.now ≤ 16 }
@@ -148,7 +148,7 @@ impl NumberedMen {
         }
     }
 
-    /// `remove`, which is left out where no man is captured.
+    /// `remove`, which is left out if no man is captured.
     #[inline(always)]
     fn remove_taken(&mut self, captured: Square, taken: bool)
         requires none { OnFalse taken (without self.old captured ≡ self.old) }
@@ -201,7 +201,7 @@ impl Numbers {
         self.follow_by(side, m, effect, number, true);
     }
 
-    /// The numbers after a move of this side and effect by the man with this number. Where no man is taken, the other
+    /// The numbers after a move of this side and effect by the man with this number. If no man is taken, the other
     /// side's stay as they are.
     #[inline(always)]
     pub(crate) fn follow_by(
@@ -251,7 +251,7 @@ fn number_on(squares: &[Square], square: Square) -> usize
     }
 }
 
-/// The place of a square in a list, or `None` where it is not there.
+/// The place of a square in a list, or `None` if it is not in the list.
 fn find(squares: &[Square], square: Square) -> Option<usize>
     ensures { result ≡ position (λ s. s == square) squares.now }
 {

@@ -10,7 +10,7 @@ pub(crate) const KING: [u8; 11] = [64, 55, 56, 57, 63, 65, 71, 72, 73, 62, 66];
 /// The differences of a knight's values, each written 64 + difference.
 pub(crate) const KNIGHT: [u8; 9] = [0, 47, 49, 54, 58, 70, 74, 79, 81];
 
-/// The square whose number is greater by a difference, written 64 + difference, or `None` where no square has that
+/// The square whose number is greater by a difference, written 64 + difference, or `None` if no square has that
 /// number.
 fn at_difference(from: Square, difference: u8) -> Option<Square>
     requires { difference < 128 }
@@ -40,7 +40,7 @@ pub(crate) fn knight_square(from: Square, value: u8) -> Option<Square>
     at_difference(from, difference)
 }
 
-/// The square of this file and rank, or `None` where there is no such rank or where it is the man's own square.
+/// The square of this file and rank, or `None` if the rank is none or the square is the man's own.
 fn other_square(from: Square, file: u8, rank: u8) -> Option<Square>
     requires { file < 8 }
     ensures { result ≡ other_square from file rank }
@@ -111,7 +111,7 @@ fn is_diagonal(from: Square, to: Square) -> bool
     b != a && (a % 8).abs_diff(b % 8) == (a / 8).abs_diff(b / 8)
 }
 
-/// The square that lies this difference ahead in the side's direction, or `None` where no square has that number.
+/// The square that lies this difference ahead in the side's direction, or `None` if no square has that number.
 fn ahead(side: Colour, from: Square, difference: u8) -> Option<Square>
     requires { difference < 64 }
     ensures { result ≡ ahead side from difference }

@@ -17,7 +17,7 @@ fn difference_value(differences: &[u8], m: &Move) -> u8
     }
 }
 
-/// The place of a difference in a list, or `None` where it is not there.
+/// The place of a difference in a list, or `None` if it is not in the list.
 fn find(differences: &[u8], sought: u8) -> Option<usize>
     ensures { result ≡ position (λ difference. difference == sought) differences.now }
 {

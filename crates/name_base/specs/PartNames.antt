@@ -10,7 +10,7 @@ use Rattle.name_base.specs.NameLists.{IsName, NameLists, limit_of}
 use Rattle.name_base.specs.NamesFile.{Entry, player_shape, event_shape, site_shape, round_shape}
 use Rattle.name_base.specs.Reading.{by_id, entry_at, has_id, header_at}
 
--- The names of a kind by id, with none where no name was met.
+-- The names of a kind by id, with none if no name was met.
 abbrev pub Known : Type 0
 Known = List (Option (List ℕ))
 
@@ -31,7 +31,7 @@ part_of_kind Event lists = lists.events
 part_of_kind Site lists = lists.sites
 part_of_kind Round lists = lists.rounds
 
--- The name with an id, where one was met.
+-- The name with an id, if one was met.
 abbrev pub met_at : Option (Option (List ℕ)) → Option (List ℕ)
 met_at (Some known) = known
 met_at None = None
@@ -41,11 +41,11 @@ name_met names id = met_at (slice_get names id)
 
 -- ---- reading as far as the first fault.
 
--- The names of a kind that were met, and the bytes after them where nothing was faulty.
+-- The names of a kind that were met, and the bytes after them if nothing was faulty.
 abbrev pub Part : Type 0
 Part = List Entry × Option (List ℕ)
 
--- What comes next, where the next name has no fault.
+-- What comes next, if the next name has no fault.
 abbrev pub met_then : List Entry → Result (List Entry × List ℕ) NameWhat → (List Entry × List ℕ → Part) → Part
 met_then met (Ok more) next = next more
 met_then met (Err what) next = (met, None)

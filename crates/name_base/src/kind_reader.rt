@@ -267,7 +267,7 @@ fn by_id(
     Ok(names)
 }
 
-/// Puts each name at the place of its id, where these are the ids of all names.
+/// Puts each name at the place of its id, if these are the ids of all names.
 fn put_by_id(names: &mut IndexSet<Vec<u8>>, ids: &mut [u32])
     requires long { length ids.old ≡ length names.old.keys }
     requires met { AreMet (length ids.old) (map (λ p. record { id = p.1; name = p.0.items }) (zip names.old.keys ids.old)) }
@@ -337,8 +337,8 @@ pub(crate) fn read_kind<'a>(
     Ok((reader.into_set(), rest))
 }
 
-/// Reads the names of a kind up to the first fault, and gives the bytes after them where there is none. Behind a fault, where there are
-/// no bytes to read, it has no names.
+/// Reads the names of a kind up to the first fault, and gives the bytes after them if there is no fault. Without bytes,
+/// which is the case behind a fault, it has no names.
 pub(crate) fn read_part<'a>(
     alloc: Global,
     kind: NameKind,
@@ -354,7 +354,7 @@ pub(crate) fn read_part<'a>(
     Ok((reader.into_part(alloc)?, rest))
 }
 
-// Reads the names of a kind up to the first fault, where there are bytes to read.
+// Reads the names of a kind up to the first fault, if there are bytes to read.
 #[tactic(auto, unfolding(crate::specs::PartNames::kind_in_part))]
 fn read_if_there<'a>(
     reader: &mut KindReader,
@@ -376,7 +376,7 @@ fn read_if_there<'a>(
     }
 }
 
-// Reads the names of a kind up to the first fault, and gives the bytes after them where there is none.
+// Reads the names of a kind up to the first fault, and gives the bytes after them if there is no fault.
 fn read_as_far<'a>(
     reader: &mut KindReader,
     alloc: Global,

@@ -130,7 +130,7 @@ impl Names {
     ///
     /// # Errors
     ///
-    /// `Full` where the name is new and its kind has as many names as a base holds, and `Memory`. The names are then as they were.
+    /// `Full` if the name is new and its kind has as many names as a base holds, and `Memory`. The names are then as they were.
     pub fn add(&mut self, alloc: Global, kind: NameKind, name: &[u8]) -> Result<u32, AddError>
         requires name { IsName name.now }
         ensures id { IfOk result (λ id. id ≡ unwrap_or (id_in (of_kind kind self.old) name.now) (length (of_kind kind self.old))) }

@@ -17,7 +17,7 @@ const UNKNOWN: &[u8] = b"?";
 /// The names of one kind by id, as far as they were read.
 #[derive(Drop)]
 pub(crate) struct PartKind {
-    // The names, empty where none was read.
+    // The names, empty if none was read.
     names: Vec<Vec<u8>>,
     // Of each id, whether a name with it was read.
     taken: Vec<bool>,
@@ -43,7 +43,7 @@ impl PartKind {
         PartKind { names, taken }
     }
 
-    // The name with an id, where one was read.
+    // The name with an id, if one was read.
     fn name_of(&self, id: u32) -> Option<&[u8]>
         ensures name { option_copied result ≡ name_met self.now id }
         ensures sound { IfSome result (λ name. IsName name.now) }
@@ -107,7 +107,7 @@ impl PartNames {
         self.kind(kind).name_of(id).is_some()
     }
 
-    /// The name with this id, or `?` where none was read.
+    /// The name with this id, or `?` if none was read.
     pub fn name_of(&self, kind: NameKind, id: u32) -> &[u8]
         requires below { id < limit_of kind }
         ensures name { slice_get (of_kind kind (filled_names self.now)) id ≡ Some result.now }

@@ -22,7 +22,7 @@ use Rattle.page_html.specs.Names.{file_of}
 unfoldable pub hundredths : ℕ → List ℕ
 hundredths tenths = decimal (tenths / 10) ++ (codes "." ++ (decimal (tenths % 10) ++ codes "%"))
 
--- How much of a whole a part is, rounded down; a dash where the whole is nothing.
+-- How much of a whole a part is, rounded down; a dash if the whole is nothing.
 unfoldable pub share : ℕ → ℕ → List ℕ
 share part whole = if whole == 0 then codes "-" else hundredths (part * 1000 / whole)
 

@@ -69,8 +69,8 @@ reference_at html =
 abbrev pub is_plain : ℕ → Bool
 is_plain byte = nat_lt 31 byte && (nat_lt byte 127 && not ((byte == 60) || ((byte == 62) || (byte == 34))))
 
--- The character that HTML shows for a byte, with what stands behind it, and how many bytes of that belong to it. There is none where an &
--- begins no reference, and where another byte does not stand for itself.
+-- The character that HTML shows for a byte, with what stands behind it, and how many bytes of that belong to it. There is none if an &
+-- begins no reference, and if another byte does not stand for itself.
 abbrev pub shown_at : ℕ → List ℕ → Option (ℕ × ℕ)
 shown_at byte html = if byte == 38 then reference_at html else if is_plain byte then Some (byte, 0) else None
 

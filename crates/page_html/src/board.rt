@@ -26,7 +26,7 @@ const KINDS: [Kind; 6] = [
     Kind::Pawn,
 ];
 
-/// Adds a board seen from both sides: that with this side below stands in sight, and the other where it is asked for by `#turned`.
+/// Adds a board seen from both sides: that with this side below stands in sight, and the other if it is asked for by `#turned`.
 pub(crate) fn push_boards(
     out: &mut Vec<u8>,
     board: &Board,

@@ -13,7 +13,7 @@ use std::alloc::{AllocError, Global};
 const HEAD: &[u8] =
     b"<!DOCTYPE html>\n<html lang=\"en\">\n<head>\n<meta charset=\"utf-8\">\n<meta name=\"viewport\" content=\"width=device-width, initial-scale=1\">\n<title>";
 
-/// What stands between the title and what the page shows. Where the board is turned by a link, the page stays in its place: what the link
+/// What stands between the title and what the page shows. If the board is turned by a link, the page stays in its place: what the link
 /// goes to is always in sight.
 const BODY: &[u8] =
     b"</title>\n<link rel=\"stylesheet\" href=\"style.css\">\n<script src=\"book.js\" defer></script>\n</head>\n<body>\n<span class=\"pin\" id=\"facing\"></span><span class=\"pin\" id=\"turned\"></span>\n";

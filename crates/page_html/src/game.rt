@@ -96,7 +96,7 @@ fn push_facts(out: &mut Vec<u8>, head: &Head) -> Result<(), AllocError>
     out.extend_from_slice(b"</p>\n")
 }
 
-// Adds the ratings of the players, where one of them is known.
+// Adds the ratings of the players, if one of them is known.
 fn push_ratings(out: &mut Vec<u8>, white: &Rating, black: &Rating) -> Result<(), AllocError> {
     if white.value == 0 && black.value == 0 {
         return Ok(());

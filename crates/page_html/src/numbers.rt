@@ -27,7 +27,7 @@ pub(crate) fn push_attribute(out: &mut Vec<u8>, name: &[u8], number: u128) -> Re
     out.extend_from_slice(b"\"")
 }
 
-/// Adds a quotient, rounded down; a dash where nothing can be divided by.
+/// Adds a quotient, rounded down; a dash if nothing can be divided by.
 pub(crate) fn push_quotient(out: &mut Vec<u8>, number: u128, by: u128) -> Result<(), AllocError>
     ensures added { OnOk result (out.new.items ≡ out.old.items ++ quotient number by) }
 {
@@ -37,7 +37,7 @@ pub(crate) fn push_quotient(out: &mut Vec<u8>, number: u128, by: u128) -> Result
     push_number(out, number / by)
 }
 
-/// Adds how much of a whole a part is, in hundredths with one digit behind the point, rounded down; a dash where the whole is nothing.
+/// Adds how much of a whole a part is, in hundredths with one digit behind the point, rounded down; a dash if the whole is nothing.
 #[tactic(auto, unfolding(crate::specs::Table::share))]
 pub(crate) fn push_share(out: &mut Vec<u8>, part: u128, whole: u128) -> Result<(), AllocError>
     requires small { part < 2 ^ 110 }

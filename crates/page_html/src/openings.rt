@@ -52,7 +52,7 @@ impl<'a> Openings<'a> {
     }
 
     /// Reads openings from a text. Each line that is not empty and does not begin with `#` is an opening code, moves in Standard Algebraic
-    /// Notation from the initial position on, without move numbers and with blanks between them, and behind a tab the name. Where lines end
+    /// Notation from the initial position on, without move numbers and with blanks between them, and behind a tab the name. If lines end
     /// on one board, the first of them counts.
     pub fn read(alloc: Global, text: &'a [u8]) -> Result<Openings<'a>, OpeningsFault> {
         let mut openings = Openings::none(alloc);

@@ -7,9 +7,9 @@ use crate::numbers::push_number;
 use bstr::decode_utf8;
 use std::alloc::{AllocError, Global};
 
-/// Adds a text, so that HTML shows the characters that it has, whatever its bytes are: those of UTF-8, and each byte that is of none of
-/// them as the character of Latin-1. A sign stands for a control character. Of the characters `<`, `>`, `&` and `"`, and of those beyond ASCII,
-/// the reference is written (HTML standard, 13.1.4).
+/// Adds a text, so that HTML shows the characters that it has, whatever its bytes are. The characters are those of
+/// UTF-8, and each byte that is of none of them is the character of Latin-1. A sign stands for a control character. Of
+/// the characters `<`, `>`, `&` and `"`, and of those beyond ASCII, the reference is written (HTML standard, 13.1.4).
 ///
 /// It fails only for want of memory, and a part of the text may then have been added.
 pub fn push_text(out: &mut Vec<u8>, text: &[u8]) -> Result<(), AllocError>

@@ -129,7 +129,7 @@ pub(crate) fn push_line(out: &mut Vec<u8>, side: Colour, steps: &[Step]) -> Resu
     Ok(())
 }
 
-/// The number of the first half-move: even where White makes it.
+/// The number of the first half-move: an even one if White makes it.
 pub(crate) fn ply_of(side: Colour) -> u32 {
     match side {
         Colour::White => 0,
@@ -137,7 +137,7 @@ pub(crate) fn ply_of(side: Colour) -> u32 {
     }
 }
 
-/// What stands before a half-move: the number of a move of White, or that of the first move where Black makes it.
+/// What stands before a half-move: the number of a move of White, or that of the first move if Black makes it.
 #[derive(Clone, Copy)]
 pub(crate) enum MoveNumber {
     White(u32),

@@ -1,4 +1,4 @@
--- How many lines of so many legal moves begin at a position, which is what the counts called perft are.
+-- How many lines of so many legal moves begin at a position, which is what the counts called perft are (this project's own).
 use Rattle.std.specs.Prelude.{◌≡◌, ℕ, zero, suc, ◌+◌, List, [], ◌∷◌}
 use Rattle.cell_core.specs.declared.step.Move.{Move}
 use Rattle.chess_laws.specs.declared.setup.Setup.{Setup}

@@ -25,7 +25,7 @@ fn main(rt: HostRuntime) -> io::Result<()> {
     Ok(())
 }
 
-/// The depth and the position of a line, where it begins with a digit and has a FEN behind it.
+/// The depth and the position of a line, if it begins with a digit and has a FEN behind it.
 fn asked(line: &[u8]) -> Option<(u8, Position)> {
     let (digit, fen) = line.split_first()?;
     if !digit.is_ascii_digit() {
@@ -36,7 +36,7 @@ fn asked(line: &[u8]) -> Option<(u8, Position)> {
     Some((depth, position))
 }
 
-/// How many lines of `depth` half-moves there are, the one of no half-move among them, or `None` where a position on the
+/// How many lines of `depth` half-moves there are, the one of no half-move among them, or `None` if a position on the
 /// way has more legal moves than the list holds, or the lines are more than the number holds. The last half-move is
 /// counted, not played.
 fn nodes(position: &Position, depth: u8) -> Option<u64>

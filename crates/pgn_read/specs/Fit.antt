@@ -1,4 +1,5 @@
--- What a base takes: a game whose moves are legal, with a head that is within its bounds and settled.
+-- What a base takes: a game whose moves are legal, with a head that is within its bounds and settled (this project's
+-- own).
 use Rattle.std.specs.Prelude.{⊤}
 use Rattle.game_tree.specs.declared.head.Head.{Head}
 use Rattle.game_tree.specs.Game.{GameTree}
@@ -13,7 +14,7 @@ pub record IsFitGame (head : Head) (game : GameTree) : Type 0 where
   pub bounded : IsBounded head
   pub settled : IsSettled head
 
--- An item is so where it is a game.
+-- An item is so if it is a game.
 abbrev pub IsFit : Item → Type 0
 IsFit (Good head game) = IsFitGame head game
 IsFit (Bad fault) = ⊤

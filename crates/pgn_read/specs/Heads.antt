@@ -38,7 +38,7 @@ value_of name tags = first_told (λ tag. if is_named name tag then Some tag.valu
 abbrev pub name_from : List ℕ → List Tag → List ℕ
 name_from name tags = unwrap_or (value_of name tags) (codes "?")
 
--- The result is that of the end mark; where it is `*`, that of the tag, if it reads.
+-- The result is that of the end mark; if it is `*`, that of the tag, if it reads.
 abbrev pub result_from : Outcome → List Tag → Outcome
 result_from outcome.Unknown tags = unwrap_or (option_and_then outcome_read (value_of (codes "Result") tags)) outcome.Unknown
 result_from result tags = result
@@ -56,8 +56,8 @@ rating_told side tag = option_and_then (rating_as side tag.value) (rating_of tag
 abbrev pub rating_from : Colour → List Tag → Rating
 rating_from side tags = unwrap_or (first_told (rating_told side) tags) (record { value = 0; kind = 0 })
 
--- The letters of all tags ScidFlags, and the marks that they set: the twelve user marks and the six custom marks from the lowest
--- bit on, and D the mark of a deleted game (after Scid). Other letters set none.
+-- The letters of all tags ScidFlags, and the marks that they set (after Scid). They are the twelve user marks and the
+-- six custom marks from the lowest bit on, and D, the mark of a deleted game. Other letters set none.
 abbrev pub flags_of : List Tag → List ℕ
 flags_of tags = flat_map (λ tag. if is_named (codes "ScidFlags") tag then tag.value else []) tags
 
@@ -73,8 +73,9 @@ abbrev pub all_marks : List ℕ → ℕ
 all_marks [] = 0
 all_marks (letter ∷ letters) = 1 + 2 * all_marks letters
 
--- The head, which is settled, so that an event date stands in its field and not in its tag. Where there is no end mark, it is `*`. A date
--- that is missing or does not read is unknown, and the opening code is that of the first tag of which it reads, or 0.
+-- The head, which is settled, so that an event date stands in its field and not in its tag. A missing end mark is `*`.
+-- A date that is missing or does not read is unknown, and the opening code is that of the first tag of which it reads,
+-- or 0.
 unfoldable pub head_from : List Tag → Option Outcome → Head
 head_from tags mark = settled (record {
   white = name_from (codes "White") tags;

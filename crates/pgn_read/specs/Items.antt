@@ -90,7 +90,7 @@ abbrev pub AreItems : At → List Item → Type 0
 AreItems a [] = (next_item a).item ≡ None
 AreItems a (item ∷ items) = ((next_item a).item ≡ Some item) × AreItems (next_item a).at items
 
--- The items from here on, where there are at most so many.
+-- The items from here on, if there are at most so many.
 abbrev pub items_at : ℕ → At → List Item
 items_at zero a = []
 items_at (suc most) a = option_map_or (λ item. item ∷ items_at most (next_item a).at) (next_item a).item []

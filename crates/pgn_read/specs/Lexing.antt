@@ -57,9 +57,9 @@ by_kind byte text behind_it =
     else if is_move_byte byte then run_from is_move_byte move text
     else lexed_as bad behind_it
 
--- The token at the beginning of a text. Behind a semicolon a comment goes to the end of its line, without a last carriage return (PGN
--- standard, 5), behind a dollar sign stands a NAG, which is a number of 0 to 255 (8.2.4), and what begins with a letter is the text of a
--- move (8.2.3).
+-- The token at the beginning of a text. Behind a semicolon a comment goes to the end of its line, without a last
+-- carriage return (PGN standard, 5). Behind a dollar sign stands a NAG, which is a number of 0 to 255 (8.2.4). What
+-- begins with a letter is the text of a move (8.2.3).
 unfoldable pub lexed : List ℕ → Lexed
 lexed [] = lexed_as the_end []
 lexed (byte ∷ text) =

@@ -42,8 +42,9 @@ movetext_by (nag n s) = movetext.nag n (movetext_by s)
 movetext_by (comment text s) = movetext.comment text (movetext_by s)
 movetext_by (variation inner s) = movetext.variation (movetext_by inner) (movetext_by s)
 
--- The texts are those of the moves, in a line inside so many others that has a move or has none: by the position before its last
--- move, where a variation begins, and the one that it has come to. NAGs and variations stand behind moves.
+-- The texts are those of the moves, in a line inside so many others that has a move or has none. The positions are the
+-- one before its last move, where a variation begins, and the one that it has come to. NAGs and variations stand behind
+-- moves.
 abbrev pub IsSpelling : ℕ → Setup → Setup → Bool → Spelling → Type 0
 IsSpelling level before here moved end = ⊤
 IsSpelling level before here moved (number s) = IsSpelling level before here moved s

@@ -1,4 +1,4 @@
--- A reader of the items of a text, as its contracts see it.
+-- A reader of the items of a text, as its contracts see it (this project's own).
 use Rattle.std.specs.Prelude.{◌≡◌, ◌⊎◌, ℕ, Bool, false, List, [], ◌∷◌, ◌++◌, Option, None, Some, IfSome, option_map}
 use Rattle.pgn_read.specs.declared.error.PgnError.{PgnError}
 use Rattle.pgn_read.specs.declared.item.Item.{Item}
@@ -15,7 +15,7 @@ pub record Window : Type 0 where
   pub room : ℕ
   pub ended : Bool
 
--- What stands ahead, if these bytes come behind the window, and where the source tells what it has left.
+-- What stands ahead, if these bytes come behind the window, and if the source tells what it has left.
 abbrev pub with_more : Window → List ℕ → At
 with_more w more = here w.place w.room (w.unread ++ more)
 
@@ -31,7 +31,7 @@ pub record Reader : Type 0 where
 abbrev pub fresh_reader : Reader
 fresh_reader = record { window = record { unread = []; place = first_place; room = longest; ended = false }; stuck = None }
 
--- What stands ahead of the reader, where the source tells what it has left.
+-- What stands ahead of the reader, if the source tells what it has left.
 abbrev pub told : Reader → Option (List ℕ) → Option At
 told reader left = ahead reader.window left
 
@@ -39,7 +39,7 @@ told reader left = ahead reader.window left
 abbrev pub Follows : Option At → Option Item → Option At → Type 0
 Follows old item new = option_map next_item old ≡ option_map (next item) new
 
--- The items that are ahead, where the source tells what it has left.
+-- The items that are ahead, if the source tells what it has left.
 abbrev pub ItemsAhead : Option At → List Item → Type 0
 ItemsAhead ahead items = IfSome ahead (λ a. AreItems a items)
 

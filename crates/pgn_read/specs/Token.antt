@@ -2,9 +2,9 @@
 use Rattle.std.specs.Prelude.{ℕ, List}
 use Rattle.game_tree.specs.declared.head.Outcome.{Outcome}
 
--- A tag with its name and its value; the text of a comment; a NAG, also one that a suffix stands for; the two brackets of a
--- variation; an end mark; a number with its dots; the text of a move; and the end of the text. Three are faulty: what begins
--- like a tag and is none, a comment that is not closed, and what is no token.
+-- A tag with its name and its value, the text of a comment, a NAG (that of a suffix too), and the two brackets of a
+-- variation. Then come an end mark, a number with its dots, the text of a move, and the end of the text. Three are
+-- faulty: what begins like a tag and is none, a comment that is not closed, and what is no token.
 pub data Token : Type 0 where
   tag : List ℕ → List ℕ → Token
   bad_tag : Token

@@ -43,7 +43,7 @@ pub record FrontPassed (old new : Window) : Type 0 where
   pub room : new.room ≡ old.room - size old.unread
   pub ended : new.ended ≡ old.ended
 
--- It is passed over where reading goes on, and where it is an end mark.
+-- It is passed over if reading goes on, and if it is an end mark.
 abbrev pub FrontMoved : Step → Window → Window → Type 0
 FrontMoved step.GoesOn old new = FrontPassed old new
 FrontMoved (step.Ends (end.Behind outcome)) old new = FrontPassed old new

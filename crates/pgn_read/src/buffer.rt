@@ -61,7 +61,7 @@ impl Buffer {
         self.from += count;
     }
 
-    /// Reads until there are so many, or to the source's end, where there are fewer.
+    /// Reads until there are so many, or to the source's end.
     pub(crate) fn fill<S: Source>(&mut self, source: &mut S, wanted: usize) -> Result<(), PgnError>
         requires room { wanted + 4096 ≤ most_ahead }
         ensures front { take (length self.old) self.new ≡ self.old }
@@ -83,7 +83,7 @@ impl Buffer {
     }
 }
 
-// Moves the bytes from one place to another to the front, where those before them are as many, so that each move is paid by
+// Moves the bytes from one place to another to the front, if those before them are as many, so that each move is paid by
 // bytes that were used. Says where they begin then.
 #[tactic(auto, using(crate::proofs::BufferLaws::moved_front))]
 fn shift(bytes: &mut Vec<u8>, from: usize, to: usize) -> usize

@@ -34,7 +34,7 @@ impl Clear {
         }
     }
 
-    /// The same where a comment that begins the text was searched to its closing brace.
+    /// The same if a comment that begins the text was searched to its closing brace.
     pub(crate) fn through(self, text: &[u8]) -> Clear
         requires clear { IsClear self text.now }
         ensures clear { IsClear result text.now }
@@ -45,7 +45,7 @@ impl Clear {
         }
     }
 
-    // The same where the text was searched to its first closing brace.
+    // The same if the text was searched to its first closing brace.
     fn to_brace(self, text: &[u8]) -> Clear
         requires clear { IsClear self text.now }
         ensures clear { IsClear result text.now }

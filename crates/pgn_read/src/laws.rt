@@ -60,14 +60,15 @@ pub fn spelled_movetexts_are_read()
         → (item_at (behind_tags tags start) a).item ≡ Some (Good (head_from tags (Some outcome)) (game_meant start (movetext_by s))) }
 {}
 
-/// A law: the game of a good item is what its movetext means: the moves that the texts of moves name, each in the position that was reached,
-/// with the NAGs, the comments and the variations between them as they stand.
+/// A law: the game of a good item is what its movetext means. Its moves are those that the texts of moves name, each in
+/// the position that was reached, with the NAGs, the comments and the variations between them as they stand.
 pub fn good_games_mean_their_movetext()
     ensures meant { (a : At) (head : HeadValue) (game : GameTree) → (next_item a).item ≡ Some (Good head game) → IsMeant (said_at a) game }
 {}
 
-/// A law: the joined texts of legal games with settled heads within their bounds, each of at most 1,048,576 bytes, are read as
-/// good items alone: the same heads with the same games, but that `}` in a comment is read as `)`. So is the text of one game by itself.
+/// A law: the joined texts of legal games with settled heads within their bounds, each of at most 1,048,576 bytes, are
+/// read as good items alone. The items are the same heads with the same games, but `}` in a comment is read as `)`. So
+/// is the text of one game by itself.
 #[tactic(auto, using(crate::proofs::RoundTripLaws::read_again, crate::proofs::RoundTripLaws::one_read_again))]
 pub fn written_games_are_read_again()
     ensures again { (games : List Headed) → All IsReadAgain games → PgnReads (texts_of games) (map again games) }

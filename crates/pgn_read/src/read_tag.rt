@@ -14,7 +14,7 @@ use game_tree::Tag;
 use std::alloc::{AllocError, Global};
 use std::marker::Model;
 
-/// A tag that was read. Its name is compared once, and kept only where the field does not tell it.
+/// A tag that was read. Its name is compared once, and kept only if the field does not tell it.
 #[derive(Drop)]
 pub(crate) struct ReadTag {
     field: Field,
@@ -87,7 +87,7 @@ impl ReadTag {
         }
     }
 
-    /// The tag, where it is an extra one.
+    /// The tag, if it is an extra one.
     #[tactic(auto, using(crate::proofs::FieldLaws::own_reserved, crate::proofs::FieldLaws::rating_is_reserved))]
     pub(crate) fn into_extra(self) -> Option<Tag>
         ensures extra { MatchOption result (is_reserved self.name ≡ true) (λ tag. (tag ≡ self) × (is_reserved self.name ≡ false)) }

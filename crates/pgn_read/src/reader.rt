@@ -162,7 +162,7 @@ fn read_game<S: Source>(
     }
 }
 
-// Takes the next token into the game. The bytes are read on only where those that are there do not tell it.
+// Takes the next token into the game. The bytes are read on only if those that are there do not tell it.
 #[tactic(auto, using(crate::proofs::ItemLaws::told_effect, crate::proofs::ItemLaws::told_moved))]
 fn take_token<S: Source>(
     alloc: Global,
@@ -198,7 +198,7 @@ fn take_token<S: Source>(
     }
 }
 
-// Takes the token at the front of the window into the game, if the window tells it, and passes over it where reading goes on behind it.
+// Takes the token at the front of the window into the game, if the window tells it, and passes over it if reading goes on behind it.
 #[tactic(auto, using(crate::proofs::SoundLaws::token_sound, crate::proofs::LegalLaws::steps_legally))]
 fn take_front(alloc: Global, window: &mut Window, game: &mut Reading) -> Result<Step, Untaken>
     requires balanced { IsBalanced game.old }

@@ -87,7 +87,7 @@ pub(crate) fn split_run(run: Run, bytes: &[u8]) -> (&[u8], &[u8])
     (bytes, &bytes[bytes.len()..])
 }
 
-/// The same where the first bytes are known to be in the run.
+/// The same if the first bytes are known to be in the run.
 #[tactic(auto, using(crate::proofs::ClearLaws::front_behind, crate::proofs::ClearLaws::rest_behind))]
 pub(crate) fn split_run_behind(run: Run, known: usize, bytes: &[u8]) -> (&[u8], &[u8])
     requires known { BeginsWith run known bytes.now }
@@ -145,7 +145,7 @@ pub(crate) fn begins(form: &[u8], bytes: &[u8]) -> bool
     true
 }
 
-// What stands behind this byte, where the bytes begin with it.
+// What stands behind this byte, if the bytes begin with it.
 fn behind_byte(first: u8, bytes: &[u8]) -> Option<&[u8]>
     ensures begins { MatchOption result ((form : List ℕ) → begins (first ∷ form) bytes.now ≡ false)
         (λ tail. (form : List ℕ) → begins (first ∷ form) bytes.now ≡ begins form tail.now) }
@@ -163,7 +163,7 @@ pub(crate) fn has_zero(text: &[u8]) -> bool
     text.iter().any(|byte| *byte == 0)
 }
 
-/// The same where the first bytes are known to have none.
+/// The same if the first bytes are known to have none.
 #[tactic(auto, using(crate::proofs::ClearLaws::zero_behind))]
 pub(crate) fn has_zero_behind(known: usize, text: &[u8]) -> bool
     requires known { BeginsWith run.ToZero known text.now }

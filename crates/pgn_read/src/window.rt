@@ -199,7 +199,7 @@ impl Window {
         Ok(())
     }
 
-    // Reads until there are so many unread bytes, where there are fewer, or to the source's end.
+    // Reads until there are so many unread bytes, or to the source's end, unless there are so many already.
     fn look<S: Source>(&mut self, source: &mut S, count: usize) -> Result<(), PgnError>
         requires few { count ≤ 8 }
         requires told { IsTrue self.old.ended → Tells (S.left source.old) [] }
@@ -220,7 +220,7 @@ impl Window {
         self.fill(source, count)
     }
 
-    // Passes over a byte of a gap, and says whether a skipped line goes on behind it; nothing where the gap has ended.
+    // Passes over a byte of a gap, and says whether a skipped line goes on behind it; nothing if the gap has ended.
     fn pass_gap(&mut self, inside: bool) -> Option<bool>
         ensures passes { IfSome result (λ later. (more : List ℕ) → gap_behind inside (with_more self.old more) ≡ gap_behind later (with_more self.new more)) }
         ensures shorter { OnSome result (length self.new.unread < length self.old.unread) }

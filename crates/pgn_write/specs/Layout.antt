@@ -19,7 +19,7 @@ abbrev pub joined : Token → List (List Token) → List (List Token)
 joined token [] = (token ∷ []) ∷ []
 joined token (unit ∷ units) = (token ∷ unit) ∷ units
 
--- The units of tokens that nothing comes between: a token stands in one unit with the next one where it holds it, or where
+-- The units of tokens that nothing comes between: a token stands in one unit with the next one if it holds it, or if
 -- that is a closing bracket. A variation without moves is the unit `()`.
 abbrev pub units : List Token → List (List Token)
 units [] = []
@@ -34,7 +34,7 @@ column_after column text = fold (λ length byte. if byte == 10 then 0 else lengt
 abbrev pub has_room : ℕ → List ℕ → Bool
 has_room column unit = nat_le (column + 1 + prefix_len (λ byte. not (byte == 10)) unit) 79
 
--- Units behind a line of so many bytes: each is led by a space where the line has room for it, and else by a line feed.
+-- Units behind a line of so many bytes: each is led by a space if the line has room for it, and else by a line feed.
 abbrev pub laid_behind : ℕ → List (List ℕ) → List ℕ
 laid_behind column [] = []
 laid_behind column (unit ∷ units) =

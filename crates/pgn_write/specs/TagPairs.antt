@@ -15,7 +15,7 @@ use Rattle.game_tree.specs.Marks.{mark_letters}
 use Rattle.game_tree.specs.Outcome.{outcome_text}
 use Rattle.game_tree.specs.TagName.{rating_tag}
 
--- A byte of a value, with a backslash before it where it is a quotation mark or a backslash (PGN standard, 7).
+-- A byte of a value, with a backslash before it if it is a quotation mark or a backslash (PGN standard, 7).
 abbrev pub escaped_byte : ℕ → List ℕ
 escaped_byte byte = if (byte == 34) || (byte == 92) then 92 ∷ byte ∷ [] else byte ∷ []
 
@@ -38,15 +38,15 @@ roster head =
     ∷ pair (codes "Result") (outcome_text head.result)
     ∷ []
 
--- A side's rating under the name of its kind, where there is one (PGN standard, 9.1.2; the kinds are Scid's).
+-- A side's rating under the name of its kind, if there is one (PGN standard, 9.1.2; the kinds are Scid's).
 abbrev pub rating_pairs : Colour → Rating → List Tag
 rating_pairs side rating = if rating.value == 0 then [] else pair (rating_tag side rating.kind) (decimal rating.value) ∷ []
 
--- The opening code, where there is one (PGN standard, 9.3.1).
+-- The opening code, if there is one (PGN standard, 9.3.1).
 abbrev pub eco_pairs : ℕ → List Tag
 eco_pairs eco = if eco == 0 then [] else pair (codes "ECO") (eco_text eco) ∷ []
 
--- The event date, where there is one (PGN standard, 9.2.1).
+-- The event date, if there is one (PGN standard, 9.2.1).
 abbrev pub event_date_pairs : Date → List Tag
 event_date_pairs date = if is_unknown date then [] else pair (codes "EventDate") (date_text date) ∷ []
 
@@ -55,11 +55,11 @@ abbrev pub letters_set : List ℕ → ℕ → List ℕ
 letters_set [] marks = []
 letters_set (letter ∷ letters) marks = letter_where (marks % 2 == 1) letter ++ letters_set letters (marks / 2)
 
--- The letters of a game's marks: D where it is marked as deleted, and then those of the other marks.
+-- The letters of a game's marks: D if it is marked as deleted, and then those of the other marks.
 unfoldable pub flags_text : Bool → ℕ → List ℕ
 flags_text deleted marks = letter_where deleted 68 ++ letters_set mark_letters marks
 
--- The marks, where there are any (after Scid).
+-- The marks, if there are any (after Scid).
 abbrev pub flags_pairs : List ℕ → List Tag
 flags_pairs [] = []
 flags_pairs (letter ∷ letters) = pair (codes "ScidFlags") (letter ∷ letters) ∷ []

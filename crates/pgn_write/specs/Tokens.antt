@@ -27,8 +27,8 @@ number_behind Black n = n + 1
 abbrev pub turn_behind : Turn → Move → Turn
 turn_behind t m = record { position = stepped t.position m; number = number_behind t.position.side t.number }
 
--- The number before a move, where it is due: before each of White, and before one of Black that is resumed, which means that
--- it is the first of its line or stands behind a comment or a variation (PGN standard, 8.2.2.2).
+-- The number before a move, if it is due. It is due before each move of White, and before one of Black that is resumed:
+-- the first of its line, or one behind a comment or a variation (PGN standard, 8.2.2.2).
 abbrev pub number_due : Colour → ℕ → Bool → List Token
 number_due side n resumed = if same_colour side White || resumed then token.number n side ∷ [] else []
 

@@ -1,5 +1,5 @@
--- A movetext while its tokens are written one by one: the last unit is kept back, since a closing bracket may still belong to
--- it, and only a whole unit tells whether it fits on its line. No public contract cites these words.
+-- A movetext while its tokens are written one by one. The last unit is kept back, since a closing bracket may still
+-- belong to it, and only a whole unit tells whether it fits on its line. No public contract cites these words.
 use Rattle.std.specs.Prelude.{ℕ, ◌+◌, ◌≤◌, Bool, true, false, ◌||◌, if◌then◌else◌, List, [], ◌∷◌, ◌++◌, Option, Some, None, is_some, length, refl}
 use Rattle.std.specs.Coded.{Coded, code_by, coded×, coded_ℕ, coded_bool, coded_list, coded_option}
 use Rattle.cell_core.specs.declared.man.Colour.{Colour}

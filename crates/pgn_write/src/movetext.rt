@@ -108,7 +108,7 @@ fn put_own(
     Ok(())
 }
 
-// Adds a move, with its number where that is due, and plays it.
+// Adds a move, with its number if that is due, and plays it.
 fn put_move(
     writer: &mut Writer,
     position: &mut Position,
@@ -126,7 +126,7 @@ fn put_move(
     Ok(())
 }
 
-// Adds the number of a move, where it is due.
+// Adds the number of a move, if it is due.
 fn put_number(
     writer: &mut Writer,
     side: Colour,
@@ -152,7 +152,7 @@ fn put_nags(writer: &mut Writer, nags: &[u8]) -> Result<(), AllocError>
     Ok(())
 }
 
-// Adds a comment, where there is one.
+// Adds a comment, if there is one.
 fn put_comment(writer: &mut Writer, comment: &Option<Text>) -> Result<(), AllocError>
     ensures tokens { OnOk result (writer.new ≡ put_all (comment_tokens comment.now) writer.old) }
 {

@@ -48,7 +48,7 @@ fn put_roster(out: &mut Vec<u8>, head: &HeadRef<'_>) -> Result<(), AllocError>
     Ok(())
 }
 
-// Adds a side's rating, where there is one.
+// Adds a side's rating, if there is one.
 fn put_rating(out: &mut Vec<u8>, side: Colour, rating: Rating) -> Result<(), AllocError>
     requires bounded { IsRating rating }
     ensures tags { OnOk result (out.new.items ≡ out.old.items ++ flat_map tag_text (rating_pairs side rating)) }
@@ -64,7 +64,7 @@ fn put_rating(out: &mut Vec<u8>, side: Colour, rating: Rating) -> Result<(), All
     )
 }
 
-// Adds the opening code, where there is one.
+// Adds the opening code, if there is one.
 fn put_eco(out: &mut Vec<u8>, eco: u16) -> Result<(), AllocError>
     requires bounded { eco ≤ 65500 }
     ensures tags { OnOk result (out.new.items ≡ out.old.items ++ flat_map tag_text (eco_pairs eco)) }
@@ -75,7 +75,7 @@ fn put_eco(out: &mut Vec<u8>, eco: u16) -> Result<(), AllocError>
     put_tag(out, b"ECO", eco_text(eco).as_slice())
 }
 
-// Adds the event date, where there is one.
+// Adds the event date, if there is one.
 fn put_event_date(out: &mut Vec<u8>, date: Date) -> Result<(), AllocError>
     ensures tags { OnOk result (out.new.items ≡ out.old.items ++ flat_map tag_text (event_date_pairs date)) }
 {
@@ -85,14 +85,14 @@ fn put_event_date(out: &mut Vec<u8>, date: Date) -> Result<(), AllocError>
     put_tag(out, b"EventDate", date.text().as_slice())
 }
 
-// Adds the letters of the marks, where there are any.
+// Adds the letters of the marks, if there are any.
 fn put_flags(out: &mut Vec<u8>, deleted: bool, marks: u32) -> Result<(), AllocError>
     ensures tags { OnOk result (out.new.items ≡ out.old.items ++ flat_map tag_text (flags_pairs (flags_text deleted marks))) }
 {
     put_letters(out, flags_text(deleted, marks).as_slice())
 }
 
-// Adds these letters of marks, where there are any.
+// Adds these letters of marks, if there are any.
 fn put_letters(out: &mut Vec<u8>, letters: &[u8]) -> Result<(), AllocError>
     ensures tags { OnOk result (out.new.items ≡ out.old.items ++ flat_map tag_text (flags_pairs letters.now)) }
 {
@@ -105,7 +105,7 @@ fn put_letters(out: &mut Vec<u8>, letters: &[u8]) -> Result<(), AllocError>
     }
 }
 
-// The letters of the marks that are set, behind D where the game is marked as deleted.
+// The letters of the marks that are set, behind D if the game is marked as deleted.
 #[tactic(auto, unfolding(crate::specs::TagPairs::flags_text))]
 fn flags_text(deleted: bool, marks: u32) -> ArrayVec<u8, 19>
     ensures letters { result.items ≡ flags_text deleted marks }
@@ -128,7 +128,7 @@ fn push_set(into: &mut ArrayVec<u8, 19>, letters: &[u8], marks: u32)
     }
 }
 
-// Adds a letter where it is set.
+// Adds a letter if it is set.
 fn push_where(into: &mut ArrayVec<u8, 19>, set: bool, letter: u8)
     requires room { length into.old.items < 19 }
     ensures letter { into.new.items ≡ into.old.items ++ letter_where set letter }
@@ -139,7 +139,7 @@ fn push_where(into: &mut ArrayVec<u8, 19>, set: bool, letter: u8)
     }
 }
 
-// Adds the start as a position, where it is not the initial one.
+// Adds the start as a position, unless it is the initial one.
 #[tactic(auto, using(crate::proofs::TagLaws::tag_rules))]
 fn put_start(alloc: Global, out: &mut Vec<u8>, g: &Game) -> Result<(), AllocError>
     ensures tags { OnOk result (out.new.items ≡ out.old.items ++ flat_map tag_text (start_pairs g.now)) }

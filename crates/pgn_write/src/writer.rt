@@ -61,7 +61,7 @@ impl Writer {
         written + unit
     }
 
-    /// The text that was written, without the last unit where that was not written out.
+    /// The text that was written, without the last unit if that was not written out.
     pub(crate) fn into_written(self) -> Vec<u8>
         ensures written { result.items ≡ self.written }
     {

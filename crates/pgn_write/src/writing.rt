@@ -15,9 +15,10 @@ use std::alloc::{AllocError, Global};
 // How many bytes are taken at first for the text of a game.
 const USUAL: usize = 2_048;
 
-/// Adds a legal game to `into` in Portable Game Notation (PGN standard, section 8): the tags one a line, an empty line, the
-/// movetext on lines of at most 79 bytes, and an empty line. The head and its tags are within their bounds. The game's moves
-/// are numbered from 1, also from a start of its own. It fails only for want of memory, and then `into` is as before.
+/// Adds a legal game to `into` in Portable Game Notation (PGN standard, section 8): the tags one a line, an empty line,
+/// the movetext on lines of at most 79 bytes, and an empty line. The head and its tags are within their bounds. Moves
+/// are numbered from 1, even from a start other than the initial position. It fails only for want of memory, and then
+/// `into` is as before.
 pub fn write_game(
     alloc: Global,
     head: HeadRef<'_>,

@@ -177,3 +177,9 @@ module _ (board : Packed) (rows : List (List Place)) (game at : ℕ) (hits : Lis
   own_there hit within is same =
       ap (option_map told_by) (sym (one_first own are.behind game hit (there hits own game at hit are begins within is) same are.above))
       ∙ head_is board game (places_in rows game)
+
+-- Where there are no hits at all, a game has none.
+pub none_there : (board : Packed) (rows : List (List Place)) (game : ℕ) (hits : List Hit) → length hits ≡ 0 → hits ≡ hits_from board 0 rows
+    → None ≡ first_on board (places_in rows game)
+none_there board rows game hits empty all =
+    ends_there board rows game 0 hits (λ before behind is less from. let long = ap length is ∙ length-append before behind in omega (arith, empty, long)) all (sym empty)

@@ -6,7 +6,7 @@ use Rattle.sig_index.specs.declared.signature.Sig.{Sig}
 use Rattle.pos_index.specs.declared.fault.BuildError.{BuildError}
 use Rattle.pos_index.specs.declared.fault.BuildError.TheVariants.{Fetch, Memory}
 
--- The cause of an error, where the files tell `told` of the games file and their count of faults went from `old` to `new`: that of a
+-- The cause of an error, if the files tell `told` of the games file and their count of faults went from `old` to `new`: that of a
 -- record which was not read; want of memory is free.
 abbrev pub HasBuildCause : BuildError → List Sig → List Extent → Option (List ℕ) → List ℕ → ℕ → ℕ → Type 0
 HasBuildCause (Fetch error) sigs extents told buffer old new = HasFetchCause error sigs extents told buffer old new

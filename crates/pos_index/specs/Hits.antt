@@ -35,7 +35,7 @@ IsLegalPlace place = IfSome place.next (IsLegalOn place.board)
 abbrev pub places_of : ℕ → GameTree → List Place
 places_of depth game = map (place_at game) (range_with_len 0 (min depth (plies_of game) + 1))
 
--- The same of the game that has a number, and no place where none has it.
+-- The same of the game that has a number, and no place if none has it.
 abbrev pub row_of : ℕ → Option GameTree → List Place
 row_of depth game = unwrap_or (option_map (places_of depth) game) []
 
@@ -56,7 +56,7 @@ abbrev pub hits_from : Packed → ℕ → List (List Place) → List Hit
 hits_from board game [] = []
 hits_from board game (row ∷ rows) = hits_in board game row ++ hits_from board (game + 1) rows
 
--- The hits on a board up to a depth, where each number has a game or none.
+-- The hits on a board up to a depth, if each number has a game or none.
 abbrev pub hits_of : ℕ → List (Option GameTree) → Packed → List Hit
 hits_of depth games board = hits_from board 0 (map (row_of depth) games)
 
@@ -64,7 +64,7 @@ hits_of depth games board = hits_from board 0 (map (row_of depth) games)
 abbrev pub places_in : List (List Place) → ℕ → List Place
 places_in rows i = slice_index_or rows i []
 
--- The first place of a game on a board: after how many half-moves it stands there, and the move then; or none where it has none there.
+-- The first place of a game on a board: after how many half-moves it stands there, and the move then; or none if it has none there.
 abbrev pub ply_and_next : Place → ℕ × Option Move
 ply_and_next place = (place.ply, place.next)
 
@@ -76,7 +76,7 @@ pub record Index : Type 0 where
   pub depth : ℕ
   pub rows : List (List Place)
 
--- The places that an index has of each game, and none where there is no index.
+-- The places that an index has of each game, and none without an index.
 abbrev pub rows_told : Option Index → List (List Place)
 rows_told None = []
 rows_told (Some index) = index.rows

@@ -32,7 +32,7 @@ impl<'a> Model for BoardHits<'a> {
 }
 
 impl<'a> BoardHits<'a> {
-    /// The hits that an index has on a board; none of them, where there is no index.
+    /// The hits that an index has on a board, and none without an index.
     pub fn new(hits: &'a [Hit]) -> BoardHits<'a>
         ensures hits { result ≡ hits.now }
     {
@@ -40,7 +40,22 @@ impl<'a> BoardHits<'a> {
     }
 
     /// The first hit of a game: after how many half-moves of its main line it stands on the board, and the move then.
+    #[inline(always)]
     pub fn first(&mut self, game: u32) -> Option<(u32, Option<Move>)>
+        ensures same { self.new ≡ self.old }
+        ensures first { (board : Packed) (rows : List (List Place)) → self.old ≡ hits_from board 0 rows → result ≡ first_on board (places_in rows game) }
+        ensures legal { (board : Packed) → All (λ hit. IfSome hit.next (IsLegalOn board)) self.old → IfSome result (λ first. IfSome first.1 (IsLegalOn board)) }
+    {
+        if self.hits.is_empty() {
+            // As without an index.
+            return None;
+        }
+        self.first_among(game)
+    }
+
+    // The same if there are some hits.
+    #[inline(never)]
+    fn first_among(&mut self, game: u32) -> Option<(u32, Option<Move>)>
         ensures same { self.new ≡ self.old }
         ensures first { (board : Packed) (rows : List (List Place)) → self.old ≡ hits_from board 0 rows → result ≡ first_on board (places_in rows game) }
         ensures legal { (board : Packed) → All (λ hit. IfSome hit.next (IsLegalOn board)) self.old → IfSome result (λ first. IfSome first.1 (IsLegalOn board)) }

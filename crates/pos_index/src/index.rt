@@ -121,7 +121,7 @@ impl PosIndex {
     }
 
     /// The first hit of game `i` on a board with its side to move, up to the depth: after how many half-moves of its main line the game
-    /// stands there, and the move then. `None` where it has no hit on the board.
+    /// stands there, and the move then. `None` if it has no hit on the board.
     pub fn first(&self, p: &PackedBoard, i: u32) -> Option<(u32, Option<Move>)>
         ensures first { result ≡ first_on p.now (places_in self.now.rows i) }
         ensures indexed { (games : List (Option GameTree)) (game : GameTree) → Indexes self.now games → slice_get games i ≡ Some (Some game) → result ≡ first_on p.now (places_of self.now.depth game) }

@@ -14,8 +14,8 @@ use indexmap::IndexSet;
 use std::alloc::{AllocError, Global};
 use std::marker::Model;
 
-/// The places of the games with the numbers from 0 on. A board is known by its number among those that were met; it keeps its number, also
-/// where no game stands there any more.
+/// The places of the games with the numbers from 0 on. A board is known by its number among those that were met. It
+/// keeps its number even if no game stands there any more.
 #[derive(Drop)]
 pub(crate) struct Places {
     boards: IndexSet<PackedBoard>,

@@ -14,6 +14,6 @@ pub record Seeks (query : PosQuery) (packed : Packed) : Type 0 where
   pub board : packed ≡ packed_of query.board query.side
   pub main : query.vars ≡ false
 
--- The move after the first match of a game: none where nothing matches, and no move where the line ends at the match.
+-- The move after the first match of a game: none if nothing matches, and no move if the line ends at the match.
 abbrev pub next_of : PosQuery → GameTree → Option (Option Move)
 next_of query game = option_map (λ (found : ℕ × Option Move). found.1) (hit_of query game)

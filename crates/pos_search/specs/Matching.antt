@@ -66,18 +66,18 @@ matches query p = same_colour p.side query.side && alike query.mode p.board quer
 abbrev pub matches_at : PosQuery → GameTree → ℕ → Bool
 matches_at query game ply = matches query (position_at game ply)
 
--- The first ply of the main line at which it matches, or none where it never does; ply 0 is the start.
+-- The first ply of the main line at which it matches, or none if it never does; ply 0 is the start.
 abbrev pub first_on_main : PosQuery → GameTree → Option ℕ
 first_on_main query game = find (matches_at query game) (range_with_len 0 (plies_of game + 1))
 
--- The ply of the first place in its variations, as they are written, whose position is one that is sought; where the query looks there.
+-- The ply of the first place in its variations, as they are written, whose position is one that is sought, if the query looks there.
 abbrev pub is_sought : PosQuery → Setup × ℕ → Bool
 is_sought query place = matches query place.0
 
 abbrev pub first_if_aside : PosQuery → GameTree → Option ℕ
 first_if_aside query game = if query.vars then option_map (λ (place : Setup × ℕ). place.1) (find (is_sought query) (places game)) else None
 
--- The first ply of the main line, and where there is none that of the variations.
+-- The first ply of the main line, and if there is none that of the variations.
 abbrev pub first_of : PosQuery → GameTree → Option ℕ
 first_of query game = option_or (first_on_main query game) (first_if_aside query game)
 

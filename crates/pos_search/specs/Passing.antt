@@ -19,7 +19,7 @@ fixes_pawns Exact = true
 fixes_pawns Pawns = true
 fixes_pawns _ = false
 
--- A main line with this signature can match: where the mode fixes them the pawns that stand at home on the board can have been those at
+-- A main line with this signature can match: if the mode fixes them, the pawns that stand at home on the board can have been those at
 -- home, and the counts of the board can have stood.
 abbrev pub passes_main : Sig → PosQuery → Bool
 passes_main sig query =
@@ -29,7 +29,7 @@ passes_main sig query =
 abbrev pub looks_into : Sig → PosQuery → Bool
 looks_into sig query = query.vars && not (sig.vars == 0)
 
--- A game with this signature can match: its main line, or a variation where it has some and the query looks there. The signature tells
+-- A game with this signature can match: its main line, or a variation if it has some and the query looks there. The signature tells
 -- nothing of the men in variations.
 unfoldable pub passes : Sig → PosQuery → Bool
 passes sig query = looks_into sig query || passes_main sig query

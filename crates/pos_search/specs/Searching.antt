@@ -23,7 +23,8 @@ is_exact _ = false
 abbrev pub is_told : PosQuery → Place → Bool
 is_told query place = is_exact query.mode && same_packed (packed_of query.board query.side) place.board
 
--- The hit of a game by the places that an index has of it: the first that is sought. Where there is none, the index does not decide it.
+-- The hit of a game by the places that an index has of it: the first that is sought. If there is none, the index does
+-- not decide it.
 abbrev pub hit_told : PosQuery → List Place → Option (ℕ × Option Move)
 hit_told query places = option_map ply_and_next (find (is_told query) places)
 

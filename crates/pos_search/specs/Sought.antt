@@ -40,7 +40,7 @@ pub record IsCounted (query : PosQuery) (counts : List ℕ) (range : MatRange) (
 unfoldable pub has_homes : Men → Men → Bool
 has_homes sought men = list_all (λ value. not (is_home sought value) || is_home men value) all_homes
 
--- A position that is sought can still come after this one: no man is missing, and where the mode fixes them no pawn at home.
+-- A position that is sought can still come after this one: no man is missing, and if the mode fixes them, no pawn at home.
 unfoldable pub can_follow : PosQuery → Setup → Bool
 can_follow query p = can_come (just (counts_of query.board)) (counts_of p.board) && (not (fixes_pawns query.mode) || has_homes query.board p.board)
 
@@ -48,7 +48,7 @@ can_follow query p = can_come (just (counts_of query.board)) (counts_of p.board)
 abbrev pub IsTold : PosQuery → Coming → Type 0
 IsTold query coming = coming.can ≡ can_come (just (counts_of query.board)) coming.counts
 
--- The ply of the first place in a variation that was found so far: this one, where none was found before it.
+-- The ply of the first place in a variation that was found so far: this one, if none was found before it.
 abbrev pub found_aside : PosQuery → Option ℕ → AllWalked → Option ℕ
 found_aside query found walk = option_or found (if not walk.on_main && matches query walk.position then Some walk.ply else None)
 

@@ -1,4 +1,4 @@
--- What the functions of this crate keep of what an index tells.
+-- What the functions of this crate keep of what an index tells (this project's own).
 use Rattle.std.specs.Prelude.{◌≡◌, ℕ, if◌then◌else◌, All, IfSome, List, [], Option, Some}
 use Rattle.cell_core.specs.Packed.{packed_of}
 use Rattle.cell_core.specs.declared.step.Move.{Move}
@@ -31,7 +31,7 @@ pub record Asked : Type 0 where
 abbrev pub first_asked : Asked → GameTree → Option ℕ
 first_asked asked game = first_of asked.query game
 
--- Which games it has read, where the hits are of games with these places, and what is known of the others.
+-- Which games it has read, if the hits are of games with these places, and what is known of the others.
 pub record TellsBy (asked : Asked) (rows : List (List Place)) (unread : Unread) : Type 0 where
   pub told : asked.hits ≡ hits_told asked.query rows
   pub reads : (i : ℕ) (sig : Sig) → unread.reads i sig ≡ is_read asked.query (places_in rows i) sig

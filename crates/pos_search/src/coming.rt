@@ -1,4 +1,4 @@
-//! Whether the men that a search seeks can still come, which is asked again only where the counts of men change.
+//! Whether the men that a search seeks can still come, which is asked again only after the counts of men change.
 ghost use Rattle.std.specs.Prelude.{◌≡◌};
 ghost use Rattle.pos_search.specs.Sought.{IsTold};
 

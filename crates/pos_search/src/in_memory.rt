@@ -11,8 +11,8 @@ use cell_core::{Move, PackedBoard, pack};
 use chess_laws::Position;
 use game_tree::Game;
 
-/// The move after the first place of a legal game's main line that has this board with this side to move: `Some(None)` where the line ends
-/// there, and `None` where it has no such place. No memory is taken.
+/// The move after the first place of a legal game's main line that has this board with this side to move: `Some(None)` if the line ends
+/// there, and `None` if it has no such place. No memory is taken.
 pub fn next_in(board: &PackedBoard, game: &Game) -> Option<Option<Move>>
     requires legal { IsLegalGame game.now }
     ensures next { (query : Query) → Seeks query board.now → result ≡ next_of query game.now }

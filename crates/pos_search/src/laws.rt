@@ -16,8 +16,9 @@ ghost use Rattle.pos_search.specs.Matching.{FirstPly, first_of, first_on_main, h
 ghost use Rattle.pos_search.specs.Passing.{passes};
 ghost use Rattle.pos_search.specs.Searching.{hit_told};
 
-/// A law: where `passes` is false of its signature, a legal game matches at no ply of its main line and has no first place; and where the
-/// query looks there it has no place in a variation, so that only games without variations are passed over.
+/// A law: if `passes` is false of its signature, a legal game matches at no ply of its main line and has no first
+/// place. If the query looks in variations, such a game has none, so that only games without variations are passed
+/// over.
 pub fn tests_are_sound()
     ensures sound { (game : GameTree) (sig : Sig) (query : PosQuery) (ply : ℕ) → Sound game.start → IsLegalGame game → IsSig game sig → ply ≤ plies_of game
         → passes sig query ≡ false → matches_at query game ply ≡ false }
@@ -25,16 +26,17 @@ pub fn tests_are_sound()
     ensures variations { (game : GameTree) (sig : Sig) (query : PosQuery) → IsSig game sig → passes sig query ≡ false → IsTrue query.vars → variations_of game ≡ 0 }
 {}
 
-/// A law: the ply that a search computes for a game is the first of its main line at which it matches; where there is none and the query
-/// looks in variations, it is the ply of the first of their places that does; and it computes none exactly where the game matches nowhere;
-/// an exact search matches where the board and the side to move are those of the query.
+/// A law: the ply that a search computes for a game is the first of its main line at which it matches. If there is none
+/// and the query looks in variations, it is the ply of the first of their places that matches. The search computes none
+/// if and only if the game matches nowhere. An exact search matches if and only if the board and the side to move are
+/// those of the query.
 pub fn first_plies_are_first()
     ensures first { (query : PosQuery) (game : GameTree) → FirstPly query game (first_of query game) }
     ensures exact { (query : PosQuery) (p : Setup) → query.mode ≡ Exact → (matches query p ≡ true) ↔ ((p.board ≡ query.board) × (p.side ≡ query.side)) }
 {}
 
-/// A law: what the places of a legal game up to a depth tell for a query is the game's hit, on its main line and within the depth; and for
-/// an exact query they tell it wherever the main line first matches within the depth.
+/// A law: what the places of a legal game up to a depth tell for a query is the game's hit, on its main line and within
+/// the depth. For an exact query they tell it whenever the main line first matches within the depth.
 pub fn index_tells_hits()
     ensures main { (query : PosQuery) (depth : ℕ) (game : GameTree) (hit : ℕ × Option Move) → length query.board ≡ 64 → Sound game.start → IsLegalGame game
         → hit_told query (places_of depth game) ≡ Some hit → (hit_on_main query game ≡ Some hit) × (hit.0 ≤ depth) }

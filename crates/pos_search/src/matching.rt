@@ -16,7 +16,7 @@ use chess_laws::{Counts, Position};
 use sig_index::{Brief, MatRange, Mode, PosQuery, can_come, can_stand, home_allows};
 use std::marker::Model;
 
-/// Whether a game with this signature can match: where it cannot, no ply of its main line matches, and no place of its variations where the
+/// Whether a game with this signature can match: if it cannot, no ply of its main line matches, and no place of its variations if the
 /// query looks there. A home list has at most 16 values, each below 16.
 pub fn passes(s: &Brief<'_>, q: &PosQuery) -> bool
     requires home { IsHomeList s.now.home }
@@ -149,7 +149,7 @@ impl<'a> Sought<'a> {
         coming.can && (!fixes_pawns(self.query.mode) || self.has_homes(p))
     }
 
-    // What is known before a ply is looked at: where no man is missing, all can come.
+    // What is known before a ply is looked at: if no man is missing, all can come.
     pub(crate) fn at_first(&self) -> Coming
         ensures told { IsTold self.now result }
     {
@@ -159,7 +159,7 @@ impl<'a> Sought<'a> {
         }
     }
 
-    // Whether the men of the sought board that are missing can still be made where there are so many.
+    // Whether the men of the sought board that are missing can still be made with so many men on the board.
     pub(crate) fn men_can_come(&self, counts: &Counts) -> bool
         ensures { result ≡ can_come (just (counts_of self.now.board)) counts.now }
     {

@@ -22,7 +22,7 @@ use game_filter::{Filter, Op};
 use pos_index::{BoardHits, PosIndex};
 use sig_index::{FetchError, Games, PosQuery};
 
-/// The first ply at which game `i` matches, with the move after it on the main line and none in a variation, or `None` where it never does.
+/// The first ply at which game `i` matches, with the move after it on the main line and none in a variation, or `None` if it never does.
 /// `i` is below the number of games, and `buf` has at least 131,072 bytes. An index, if there is one, is meant to be one of these games. The
 /// game's record is read if it can match and the index does not decide it, and so many bytes count as asked.
 pub fn hit<G: Games, F: Files>(
@@ -56,10 +56,11 @@ pub fn hit<G: Games, F: Files>(
     )
 }
 
-/// Leaves in the filter what its entries become by a search of a position. The filter has one entry per game, and `buf` has at least
-/// 131,072 bytes. An index, if there is one, is meant to be one of these games. A game is read where `op` looks at it, it can match and the
-/// index does not decide it, and so many bytes count as asked. After an error the games from one on have their old entries, and where the
-/// files tell what they hold and the index is of these games those before it their new ones; if the error names a game, it is that one.
+/// Leaves in the filter what its entries become by a search of a position. The filter has one entry per game, and `buf`
+/// has at least 131,072 bytes. An index, if there is one, is meant to be one of these games. A game is read if `op`
+/// looks at it, it can match and the index does not decide it, and so many bytes count as asked. After an error the
+/// games from one on have their old entries; if the error names a game, it is that one. The games before it have their
+/// new entries, if the files tell what they hold and the index is of these games.
 pub fn search<G: Games, F: Files>(
     games: &G,
     q: &PosQuery,
@@ -78,7 +79,7 @@ pub fn search<G: Games, F: Files>(
     ensures rest { IfErr result (λ e. LeavesRest e filter.old filter.new) }
     // Whatever the files hold and however the search ends, a game that `op` does not look at keeps its entry.
     ensures kept { KeepsOthers (looks_at op) filter.old filter.new }
-    // And a game that is not read has the ply that the index tells of it, or no matching ply where the index tells none.
+    // And a game that is not read has the ply that the index tells of it, or no matching ply if the index tells none.
     ensures skipped { OnOk result ((i : ℕ) (sig : Sig) → slice_get (G.sigs games.now) i ≡ Some sig → is_read q.now (places_in (rows_told (option_copied index.entry)) i) sig ≡ false → slice_index_or filter.new i None ≡ entry_after op (slice_index_or filter.old i None) (ply_of (hit_told q.now (places_in (rows_told (option_copied index.entry)) i)))) }
     ensures entries { length filter.new ≡ length filter.old }
     ensures unchanged { F.seen files.new ≡ F.seen files.old }
@@ -95,6 +96,7 @@ pub fn search<G: Games, F: Files>(
 }
 
 /// The same as `hit`, of what is sought, with the hits that an index of these games tells of it, if there is one.
+#[inline(always)]
 pub fn hit_sought<G: Games, F: Files>(
     games: &G,
     i: u32,
@@ -127,6 +129,7 @@ pub fn hit_sought<G: Games, F: Files>(
 }
 
 // The hit of one game, whose record is read into `buf`.
+#[inline(never)]
 fn hit_read<G: Games, F: Files>(
     games: &G,
     i: u32,

@@ -10,7 +10,7 @@ use cell_core::{Move, pack};
 use pos_index::{BoardHits, PosIndex};
 use sig_index::{Mode, PosQuery};
 
-/// The hits of a query that an index tells, if there is one: none, where the query is not exact.
+/// The hits of a query that an index tells, if there is one: none, if the query is not exact.
 pub fn hits_told<'a>(q: &PosQuery, index: Option<&'a PosIndex>) -> BoardHits<'a>
     ensures told { result ≡ hits_told q.now (rows_told (option_copied index.entry)) }
     ensures legal { AreLegalHits q.now result }
@@ -24,7 +24,7 @@ pub fn hits_told<'a>(q: &PosQuery, index: Option<&'a PosIndex>) -> BoardHits<'a>
     BoardHits::new(index.find(&pack(&q.board, q.side)))
 }
 
-// The hit of game `i`, where these hits tell it.
+// The hit of game `i`, if these hits tell it.
 pub(crate) fn hit_told(told: &mut BoardHits<'_>, i: u32) -> Option<(u32, Option<Move>)>
     ensures same { told.new ≡ told.old }
     ensures told { (query : Query) (rows : List (List Place)) → told.old ≡ hits_told query rows → result ≡ hit_told query (places_in rows i) }
@@ -33,7 +33,7 @@ pub(crate) fn hit_told(told: &mut BoardHits<'_>, i: u32) -> Option<(u32, Option<
     told.first(i)
 }
 
-// The first matching ply of game `i`, where these hits tell it.
+// The first matching ply of game `i`, if these hits tell it.
 pub(crate) fn ply_told(told: &mut BoardHits<'_>, i: u32) -> Option<u32>
     ensures same { told.new ≡ told.old }
     ensures told { (query : Query) (rows : List (List Place)) → told.old ≡ hits_told query rows → result ≡ ply_of (hit_told query (places_in rows i)) }

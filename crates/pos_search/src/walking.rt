@@ -13,9 +13,10 @@ use cell_core::Move;
 use game_codec::{AllWalk, RecordFault, Walk};
 use sig_index::{Brief, PosQuery};
 
-/// The first ply of the main line of a record that matches, with the move after it; where none does and the query looks in variations, the
-/// ply of the first of their places that does, without a move; or `None` where nothing matches. A record has fewer than 2^32 bytes. No
-/// memory is taken, and the walk ends where no match can come. The fault comes only where the bytes are no record.
+/// Gives the first ply of the main line of a record that matches, with the move after it. If none does and the query
+/// looks in variations, it gives the ply of the first of their places that does, without a move. It gives `None` if
+/// nothing matches. A record has fewer than 2^32 bytes. No memory is taken, and the walk ends when no match can come.
+/// Bytes that give a fault are no record.
 pub fn first_match(bytes: &[u8], q: &PosQuery) -> Result<Option<(u32, Option<Move>)>, RecordFault>
     requires few { length bytes.now < 2 ^ 32 }
     ensures first { IfOk result (λ hit. (tags : List Tag) (game : GameTree) → IsRecord bytes.now tags game → hit ≡ hit_of q.now game) }
@@ -42,7 +43,7 @@ pub(crate) fn first_sought(
     }
 }
 
-// The same where variations are looked at too: the main line comes first, wherever its place stands.
+// The same if variations are looked at too: the main line comes first, wherever its place stands.
 fn first_in_lines(bytes: &[u8], q: &Sought<'_>) -> Result<Option<(u32, Option<Move>)>, RecordFault>
     requires few { length bytes.now < 2 ^ 32 }
     requires aside { IsTrue q.now.vars }

@@ -12,11 +12,11 @@ use Rattle.shell_state.specs.Lines.{san_words, line_of}
 use Rattle.shell_state.specs.State.{State, games_of}
 use Rattle.shell_state.specs.Work.{reading, Work}
 
--- The codes that a table gives to the games, one for each: none where it gives none.
+-- The codes that a table gives to the games, one for each: none if it gives none.
 abbrev pub codes_of : List Opening → State → List (Option ℕ)
 codes_of table s = map (eco_of table) (games_of s)
 
--- The state in which each game has the code that a table gives it, or its own where it gives none; it is unsaved where a game got one.
+-- The state in which each game has the code that a table gives it, or its own if it gives none; it is unsaved if a game got one.
 abbrev pub classified_by : State → List Opening → State
 classified_by s table =
     let coded : Held → Held = λ held. record held { head = record held.head { eco = unwrap_or (eco_of table held.game) held.head.eco } } in
@@ -50,7 +50,7 @@ abbrev pub text_by : State → Result (List Opening) EcoFault → List ℕ
 text_by s (Ok table) = classified_text s table
 text_by s (Err fault) = no_table_line fault
 
--- The records of all games are read, where the body is a table.
+-- The records of all games are read, if the body is a table.
 abbrev pub eco_work : List ℕ → Work
 eco_work body =
     record (reading (λ s. state_by s (table_of body)) (λ s. text_by s (table_of body)) (λ looks plies. sum_by (λ look. look.len) looks)) {

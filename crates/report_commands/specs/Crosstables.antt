@@ -5,7 +5,7 @@ use Rattle.game_tree.specs.declared.head.Head.{Head}
 use Rattle.shell_state.specs.Lines.{error_line}
 use Rattle.shell_state.specs.Work.{Work, quiet}
 
--- cross EVENT: the table of the games with these heads, or an error line where more than 200 names play.
+-- cross EVENT: the table of the games with these heads, or an error line if more than 200 names play.
 abbrev pub cross_of : List ℕ → List Head → List ℕ
 cross_of event heads =
     if nat_lt 200 (length (names_of (event_games event heads))) then error_line (codes "too many players")

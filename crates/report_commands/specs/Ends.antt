@@ -27,12 +27,12 @@ twins_line count = line_of (codes "twins " ++ decimal count)
 abbrev pub IsCode : Option ℕ → Type 0
 IsCode code = IfSome code (λ eco. eco ≤ 65500)
 
--- The game of this number got a code, where there is one.
+-- The game of this number got a code, if there is one.
 abbrev pub IsCoded : ℕ → Option ℕ → Kept → Kept → Type 0
 IsCoded i None old new = new ≡ old
 IsCoded i (Some code) old new = Does (classified i code) old new × ChangedHeads old new
 
--- A game with a code; where there is none it keeps its own.
+-- A game with a code; without one it keeps its own.
 abbrev pub with_code : Option ℕ → Held → Held
 with_code code held = record held { head = record held.head { eco = unwrap_or code held.head.eco } }
 

@@ -13,12 +13,12 @@ use Rattle.shell_state.specs.Work.{Work, Look, reading}
 abbrev pub found_twins : State → ℕ → List ℕ
 found_twins s depth = twins_of (map (λ held. held.head) s.shared.base.games) (games_of s) depth
 
--- The state with these games marked as deleted; where there is none it stays as it is.
+-- The state with these games marked as deleted; without any it stays as it is.
 abbrev pub with_deleted : State → List ℕ → State
 with_deleted s [] = s
 with_deleted s (game ∷ games) = with_base s (fold (λ base game. deleted game base) s.shared.base (game ∷ games))
 
--- An undeleted game is read where another undeleted one has the same names, date and result.
+-- An undeleted game is read if another undeleted one has the same names, date and result.
 abbrev pub twins_price : List Look → List (Option ℕ) → ℕ
 twins_price looks plies =
     sum_by (λ look. len_if (not look.head.deleted && nat_le 2 (agreeing look.head (map (λ look. look.head) looks))) look.len) looks

@@ -22,7 +22,7 @@ use shell_state::{Halt, Machine, write_line};
 use sig_index::Games;
 use std::alloc::Global;
 
-/// eco <<WORD
+/// The command `eco <<WORD`: gives each game its opening code by the table in the body, and writes its line.
 #[tactic(auto, using(shell_state::proofs::Causing::unsaid_without))]
 pub fn eco<F: Files, B: Source, K: Sink>(
     alloc: Global,
@@ -187,7 +187,7 @@ fn found_in(codes: &[Option<u16>]) -> usize
     codes.iter().filter(|code| code.is_some()).count()
 }
 
-// Gives each game its code, where it has one.
+// Gives each game its code, if it has one.
 fn set_codes(base: &mut Base, codes: &[Option<u16>])
     requires count { length codes.now ≡ length base.old.entries }
     requires small { All IsCode codes.now }
@@ -198,7 +198,7 @@ fn set_codes(base: &mut Base, codes: &[Option<u16>])
     }
 }
 
-// Gives game `i` a code, where there is one.
+// Gives game `i` a code, if there is one.
 fn set_code(base: &mut Base, i: u32, code: Option<u16>)
     requires there { i < length base.old.entries }
     requires small { IsCode code }

@@ -9,7 +9,7 @@ use shell_state::{Machine, error_line};
 use sig_index::Games;
 use std::alloc::{AllocError, Global};
 
-/// cross EVENT
+/// The command `cross EVENT`: gives the crosstable of the event, or its error line.
 pub fn cross(alloc: Global, machine: &Machine, event: &Text) -> Result<Vec<u8>, AllocError>
     requires fits { Fits machine.now }
     ensures quiet { IfOk result (λ text. Quiet machine.now (cross_work event.now) machine.now text.items) }

@@ -20,7 +20,7 @@ use sig_index::Games;
 use std::alloc::{AllocError, Global};
 use twin_games::TwinError;
 
-/// twins D
+/// The command `twins D`: marks each twin as deleted, by the first D plies, and writes its line.
 #[tactic(auto, using(shell_state::proofs::Causing::unsaid_without))]
 pub fn twins<F: Files, K: Sink>(
     alloc: Global,

@@ -25,8 +25,8 @@ pub struct Absent {
 }
 
 impl Absent {
-    /// Which of the names and the games of a base are not there, where its index is. Where a file of it is set aside none counts as absent:
-    /// a run was broken off.
+    /// Which of the names and the games of a base are absent, if its index is there. If a file of it is set aside, none counts as
+    /// absent: a run was broken off.
     pub fn of_base(rt: &HostRuntime, name: &str) -> Result<Absent, Status> {
         let none = Absent {
             names: false,
@@ -207,7 +207,7 @@ fn open_file(rt: &HostRuntime, name: &str, ending: &str) -> Result<Option<File>,
     }
 }
 
-// The bytes of a file, so many at most; none where it is not there.
+// The bytes of a file, so many at most, and none of an absent one.
 fn read_whole(alloc: Global, file: &mut Option<File>, most: u64) -> io::Result<Vec<u8>> {
     let mut bytes = Vec::new(alloc);
     if let Some(file) = file {
@@ -217,7 +217,7 @@ fn read_whole(alloc: Global, file: &mut Option<File>, most: u64) -> io::Result<V
     Ok(bytes)
 }
 
-// The length of a file; 0 where it is not there.
+// The length of a file, and 0 of an absent one.
 fn length_of(file: &Option<File>) -> io::Result<u64> {
     match file {
         Some(file) => Ok(file.metadata()?.len()),

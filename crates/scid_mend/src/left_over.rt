@@ -20,7 +20,7 @@ pub fn take_away_left_over(rt: &HostRuntime, old: &str, name: &str) -> Result<()
     // What it put right may be a whole base.
     if is_left_over(rt, name)? {
         for ending in ENDINGS {
-            // Where this fails making the file fails too, and says why.
+            // If this fails, making the file fails too, and says why.
             let _ = fs::remove_file(rt, path_of(rt, name, ending)?.as_str());
         }
     }

@@ -71,7 +71,8 @@ fn printed(outcome: io::Result<()>) -> Status
     }
 }
 
-/// Opens the old base, and mends it. Where its names or its games are not there, they are as files of no bytes, and that is said.
+/// Opens the old base, and mends it. If its names or its games are absent, they are as files of no bytes, and a message
+/// tells it.
 fn run(rt: &HostRuntime, old: &str, new: &str) -> Status {
     let absent = match Absent::of_base(rt, old) {
         Ok(absent) => absent,

@@ -45,7 +45,7 @@ fault_name fault.Pawns = codes "pawns"
 fault_name fault.TooMany = codes "too many men"
 fault_name fault.InCheck = codes "in check"
 
--- The answer to what a FEN says: its legal moves in order, where they are no more than 256.
+-- The answer to what a FEN says: its legal moves in order, if they are no more than 256.
 abbrev pub position_answer : Result Setup FenFault → List ℕ
 position_answer (Ok p) = if nat_lt 256 (length (legal_moves p)) then error_lines (codes "too many moves") else listing p (legal_moves p)
 position_answer (Err fault) = error_lines (fault_name fault)

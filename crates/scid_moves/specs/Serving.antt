@@ -1,4 +1,4 @@
--- What was answered of an input, where it and the output tell their bytes (this project's own).
+-- What was answered of an input, if it and the output tell their bytes (this project's own).
 use Rattle.std.specs.Prelude.{◌≡◌, ℕ, List, Option}
 use Rattle.base_files.specs.Told.{adds, before, Grew}
 use Rattle.scid_moves.specs.Lines.{all_lines, answers, whole_lines}

@@ -19,8 +19,8 @@ use std::alloc::{AllocError, Global};
 /// The most bytes that a line may have.
 pub const LONGEST_LINE: usize = 1024;
 
-/// The answer to a line, which stands without its line feed: a line for each legal move of the position that it says, how it stands,
-/// and an empty line; or why it says none. It fails only for want of memory.
+/// The answer to a line, which stands without its line feed. It is a line for each legal move of the position that the
+/// line says, how that position stands, and an empty line; or why the line says none. It fails only for want of memory.
 pub fn answer(alloc: Global, line: &[u8]) -> Result<Vec<u8>, AllocError>
     ensures answer { IfOk result (λ text. text.items ≡ answer line.now) }
 {
@@ -56,7 +56,7 @@ fn refusal(alloc: Global, fault: FenFault) -> Result<Vec<u8>, AllocError>
     }
 }
 
-// The answer where a field is malformed.
+// The answer if a field is malformed.
 fn field_refusal(alloc: Global, number: u8) -> Result<Vec<u8>, AllocError>
     ensures lines { IfOk result (λ text. text.items ≡ error_lines (fault_name (FenFault.Field number))) }
 {

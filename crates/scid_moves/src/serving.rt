@@ -16,7 +16,7 @@ use std::alloc::Global;
 /// How many bytes are asked of the input at once.
 const PIECE: usize = 4096;
 
-/// How many bytes of a line are kept: one more than it may have, so that what is kept is too long where the line is.
+/// How many bytes of a line are kept: one more than it may have, so that what is kept is too long if the line is.
 const MOST_KEPT: usize = LONGEST_LINE + 1;
 
 /// Answers each line of the input before the next one is read.
@@ -66,7 +66,7 @@ fn take_piece<K: Sink>(
     Ok(())
 }
 
-// Takes a byte, and answers the line where it is a line feed.
+// Takes a byte, and answers the line if it is a line feed.
 #[tactic(auto, using(crate::proofs::StandingLaws::stands_fed, crate::proofs::StandingLaws::stands_kept, crate::proofs::StandingLaws::stands_full, crate::proofs::StandingLaws::cut_byte, crate::proofs::StandingLaws::cut_fed, crate::proofs::StandingLaws::cut_stands))]
 fn take_byte<K: Sink>(
     alloc: Global,

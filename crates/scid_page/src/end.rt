@@ -29,7 +29,7 @@ pub enum End {
 }
 
 impl End {
-    /// The exit code of the process, those of `scid_shell`. It is 0 where the run is done.
+    /// The exit code of the process, those of `scid_shell`. It is 0 if the run is done.
     pub fn exit_code(&self) -> u8 {
         match self {
             End::Usage => 1,

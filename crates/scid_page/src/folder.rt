@@ -20,7 +20,7 @@ const INCOMPLETE: &str = "INCOMPLETE";
 const WORDS: &[u8] =
     b"This folder is not whole: scid_page was ended before it had written all pages.\n";
 
-/// What is done where a folder is there and not empty.
+/// What is done if a folder is there and not empty.
 #[derive(Clone, Copy, Debug, PartialEq, Eq)]
 pub enum Existing {
     Refuse,
@@ -163,7 +163,7 @@ impl<'a> Folder<'a> {
         self.at.as_str() != self.name
     }
 
-    // Takes the place of the folder that is there; where that fails, it stays.
+    // Takes the place of the folder that is there; if that fails, it stays.
     fn take_place(&self) -> io::Result<()> {
         fs::rename(self.system, self.name, self.old.as_str())?;
         match fs::rename(self.system, self.at.as_str(), self.name) {
@@ -226,7 +226,7 @@ fn place(alloc: Global, name: &str, replaces: bool) -> Result<String, AllocError
     }
 }
 
-// What stands at a name. A folder is one that the program made where it has its mark and no file that the program does not make.
+// What stands at a name. A folder is one that the program made if it has its mark and no file that the program does not make.
 fn standing_at(system: &HostRuntime, alloc: Global, name: &str) -> io::Result<There> {
     if fs::read_link(system, name).is_ok() {
         return Ok(There::Other);

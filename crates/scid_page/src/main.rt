@@ -153,7 +153,7 @@ fn make_chosen<F: Files, K: Sink>(
     }
 }
 
-// Chooses the games that count, and says how many they are where these are not all.
+// Chooses the games that count, and says how many they are if a query chose them.
 #[tactic(auto, using(crate::proofs::AskedLaws::one_each))]
 fn choose<K: Sink>(
     alloc: Global,

@@ -6,7 +6,7 @@ use std::fs;
 use std::io::{ErrorKind, IsTerminal};
 use std_devices::Shown;
 
-/// The text of a file of names, or nothing where there is none.
+/// The text of a file of names, or nothing if no file is named.
 pub fn names_read(rt: &HostRuntime, file: Option<&str>) -> Result<Vec<u8>, End> {
     let Some(file) = file else {
         return Ok(Vec::new(rt.alloc()));

@@ -10,7 +10,8 @@ use script_text::{Command, CommandError, read_command};
 use sig_index::Games;
 use std::alloc::Global;
 
-/// The query that items of a search of heads are, as a script has them behind `search and header`; none where there are no items.
+/// The query that items of a search of heads are, as a script has them behind `search and header`, or none without
+/// items.
 pub fn query_read(alloc: Global, items: Option<&str>) -> Result<Option<HeadQuery>, End> {
     let Some(items) = items else {
         return Ok(None);
@@ -23,7 +24,7 @@ pub fn query_read(alloc: Global, items: Option<&str>) -> Result<Option<HeadQuery
     }
 }
 
-/// The games of a base that count: those that a query asks for, or all where there is none.
+/// The games of a base that count: those that a query asks for, or all without a query.
 pub fn games_asked(alloc: Global, base: &Base, query: &Option<HeadQuery>) -> Result<Filter, End>
     ensures games { IfOk result (λ filter. filter ≡ games_asked query.now base.now) }
 {

@@ -7,7 +7,7 @@ use cell_core::{Colour, PackedBoard, pack};
 use chess_laws::Position;
 use chess_text::read_board;
 
-/// How many half-moves a book goes on, and how many games reach a position at least, where the words do not say.
+/// How many half-moves a book goes on, and how many games reach a position at least, if the words do not say.
 const DEPTH: u8 = 16;
 
 const LEAST: u32 = 10;
@@ -18,7 +18,7 @@ pub struct Wanted<'a> {
     pub base: &'a str,
     pub folder: &'a str,
     pub reach: Reach,
-    /// The items of a search of heads, where not all games count.
+    /// The items of a search of heads, if not all games count.
     pub only: Option<&'a str>,
     /// The side that stands below on the boards.
     pub below: Colour,
@@ -41,10 +41,16 @@ struct Said<'a> {
     existing: Option<Existing>,
 }
 
-/// What the words ask for, where they are the name of a base and then that of a folder, and among them each at most once `--depth` and a
-/// number up to 40, `--least` and a number from 1 on, `--only` and the items of a search of heads, which are not read here, `--from` with a
-/// board and a side, `--side` and `white` or `black`, and `--names` and the name of a file, and
-/// `--replace`.
+/// What the words ask for. They are the name of a base and then that of a folder, and among them these, each at most
+/// once:
+///
+/// - `--depth` and a number up to 40;
+/// - `--least` and a number from 1 on;
+/// - `--only` and the items of a search of heads, which are not read here;
+/// - `--from` with a board and a side;
+/// - `--side` and `white` or `black`;
+/// - `--names` and the name of a file;
+/// - `--replace`.
 pub fn words_read(words: &[String]) -> Option<Wanted<'_>> {
     let Some(said) = said_by(words) else {
         return None;

@@ -53,7 +53,7 @@ fn answer(rt: &HostRuntime, words: &[String]) -> ExitCode {
     }
 }
 
-/// Says what to type where the base has the name of a file, or is not there.
+/// Says what to type if the base has the name of a file, or is not there.
 fn advise(rt: &HostRuntime, words: &[String]) {
     let Some(base) = words.iter().find(|word| !word.starts_with("--")) else {
         return;
@@ -138,7 +138,7 @@ fn run_over(
     flushed(read_so_far(status, text.is_unread()), outcome)
 }
 
-/// The status of a session after all that it read: the session is done with that where its input was not read on, since its text could
+/// The status of a session after all that it read: the session is done with that if its input was not read on, since its text could
 /// not be handed on. That fault is told when the last bytes are handed on.
 fn read_so_far(status: Status, is_unread: bool) -> Status
     ensures kept { status ≢ done.ReadFault → result ≡ status }
@@ -156,7 +156,7 @@ fn read_so_far(status: Status, is_unread: bool) -> Status
     }
 }
 
-/// The status of a session whose last bytes were then handed on. A fault at that is told where the session was done, and
+/// The status of a session whose last bytes were then handed on. A fault at that is told if the session was done, and
 /// else what ended the session.
 fn flushed(status: Status, outcome: Result<(), DeviceError>) -> Status
     ensures kept { status ≢ done.Done → result ≡ status }

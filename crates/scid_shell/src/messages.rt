@@ -94,10 +94,10 @@ fault, 6 changed game, 7 input too long, 8 out of memory. What it was is told
 on standard error.
 ";
 
-/// What to type where the base was named as its file is.
+/// What to type if the base was named as its file is.
 pub const NO_ENDING: &str = "a base is named without the ending of its files: ";
 
-/// What to type where there is no such base.
+/// What to type if there is no such base.
 pub const CREATE: &str = "there is no base of this name; --create makes one";
 
 /// The answer to `--version`.

@@ -1,4 +1,5 @@
--- The body of a command: the bytes of the lines behind its own, up to one that is the word. Only the reader's contracts cite it.
+-- The body of a command: the bytes of the lines behind its own, up to one that is the word
+-- (this project's own). Only the reader's contracts cite it.
 use Rattle.std.specs.Prelude.{ℕ, suc, ◌==◌, Bool, ◌&&◌, if◌then◌else◌, List, [], ◌∷◌, Option, None, option_map}
 use Rattle.std.specs.List.{position}
 use Rattle.std.specs.Str.{bytes_eq}
@@ -21,7 +22,7 @@ says_word word line = bytes_eq (shorn line) word
 abbrev pub is_word : List ℕ → List ℕ → Bool
 is_word word bytes = says_word word (first_line bytes)
 
--- The bytes of a body as they stand, and how many bytes the line has that ends it, with its line feed: none where the script ends first.
+-- The bytes of a body as they stand, and how many bytes the line has that ends it, with its line feed: none if the script ends first.
 pub record Body : Type 0 where
   pub bytes : List ℕ
   pub end : Option ℕ
@@ -32,7 +33,7 @@ body bytes end = record { bytes = bytes; end = end }
 abbrev pub led : ℕ → Body → Body
 led byte b = body (byte ∷ b.bytes) b.end
 
--- The body that these bytes begin with; a line begins with them where they are fresh.
+-- The body that these bytes begin with; a line begins with them if they are fresh.
 unfoldable pub body_of : List ℕ → Bool → List ℕ → Body
 body_of word fresh [] = body [] None
 body_of word fresh (byte ∷ bytes) =

@@ -1,4 +1,5 @@
--- A script byte by byte, as a reader meets it: what these bytes say behind a line so far. It says what the lines of Script do, by a law.
+-- A script byte by byte, as a reader meets it: what these bytes say behind a line so far (this project's own). It says
+-- what the lines of Script do, by a law.
 use Rattle.std.specs.Prelude.{ℕ, zero, suc, ◌+◌, ◌==◌, true, if◌then◌else◌, List, [], ◌∷◌, ◌++◌, length, Option, Some, None}
 use Rattle.script_text.specs.Tasks.{body_word}
 use Rattle.script_lines.specs.Bodies.{Body, body_of}
@@ -14,7 +15,7 @@ with_body last line b size later = elim b.end [
   | None ↦ script (last (tagged_task line b.bytes)) size
 ]
 
--- A line with its body, where it has one.
+-- A line with its body, if it has one.
 abbrev pub with_word : (Tagged → List Tagged) → Line → Option (List ℕ) → List ℕ → (ℕ → Script) → Script
 with_word last line (Some word) bytes later = with_body last line (body_of word true bytes) (length bytes) later
 with_word last line None bytes later = led_by (tagged_task line []) (later 0)

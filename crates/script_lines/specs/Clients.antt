@@ -19,12 +19,12 @@ is_quit _ = false
 abbrev pub said : Option ℕ → Order → Line
 said client order = record { client = client; order = order }
 
--- The client that the first three bytes of a line name: `@`, his digit, which is one from 0 to 3, and a space.
+-- The client that the first three bytes of a line name: `@`, its digit, which is one from 0 to 3, and a space.
 unfoldable pub named : List ℕ → Option ℕ
 named (sign ∷ digit ∷ blank ∷ line) = if (sign == 64) && (blank == 32) && nat_le 48 digit && nat_lt digit 52 then Some (digit - 48) else None
 named _ = None
 
--- What a line says that no client says, by how it reads alone: nothing where it has no word or is a remark, and else no known command.
+-- What a line says that no client says, by how it reads alone: nothing if it has no word or is a remark, and else no known command.
 abbrev pub unclaimed : Order → Order
 unclaimed (Ok Nothing) = Ok Nothing
 unclaimed _ = Err Unknown
@@ -60,7 +60,7 @@ new_clients desk = record { tagged = desk; ended = false ∷ not desk ∷ not de
 abbrev pub has_ended : Clients → ℕ → Bool
 has_ended clients client = unwrap_or (slice_get clients.ended client) true
 
--- The client who ends with a line: he says `quit`.
+-- The client that ends with a line, which is `quit`.
 abbrev pub leaver : Line → Option ℕ
 leaver line = if is_quit line.order then line.client else None
 

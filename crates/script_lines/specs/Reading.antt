@@ -70,7 +70,7 @@ pub record IsFull (reader : Reader) : Type 0 where
   pub full : reader.used ≡ longest_script
   pub more : 0 < length reader.unread
 
--- What is known where no line was read.
+-- What is known if no line was read.
 abbrev pub Stuck : ReadError → Reader → Option (List ℕ) → Reader → Option (List ℕ) → Type 0
 Stuck Failed old left new later = TookPart [] old left new later × (new.unread ≡ [])
 Stuck TooLong old left new later = TookPart [] old left new later × IsFull new

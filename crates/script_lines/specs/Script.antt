@@ -7,7 +7,7 @@ use Rattle.script_text.specs.Tasks.{body_word, task}
 use Rattle.script_lines.specs.Clients.{Clients, Tagged, heard, is_end, is_quit, line_of, new_clients, said, tagged_task}
 use Rattle.script_lines.specs.declared.line.Line.{Line}
 
--- The tasks of a script, and how many bytes it has: up to and with the line that ends it, or all of them where none does.
+-- The tasks of a script, and how many bytes it has: up to and with the line that ends it, or all of them if none does.
 pub record Script : Type 0 where
   pub tasks : List Tagged
   pub size : ℕ
@@ -32,8 +32,8 @@ with_bytes t bytes = record { client = t.client; task = task t.task.order (t.tas
 abbrev pub with_line : List ℕ → Script → Script
 with_line line s = record s { size = suc (length line) + s.size }
 
--- A task begins, and what comes behind it is said at a place: in a body, by its task with so much of it yet and the word up to which the lines
--- are its own, or between tasks.
+-- A task begins, and what comes behind it is said at a place. In a body, the place has its task with so much of it yet,
+-- and the word up to which the lines are its own. Else it is between tasks.
 abbrev pub begun : Tagged → Option (List ℕ) → (Option (Tagged × List ℕ) → Script) → Script
 begun t None later = led_by t (later None)
 begun t (Some word) later = later (Some (t, word))
@@ -57,7 +57,8 @@ script_at last end clients (Some (t, word)) (line ∷ lines) =
 abbrev pub script_by : (Tagged → List Tagged) → Clients → List ℕ → Script
 script_by last clients bytes = script_at last (lines_from [] bytes).1 clients None (lines_from [] bytes).0
 
--- The end of the input ends the last task, and stands for `quit` of the one client where that is not; at a desk it ends the last task alone.
+-- The end of the input ends the last task. With one client, it stands for `quit` too, unless that task is `quit`; at a
+-- desk it ends the last task alone.
 abbrev pub at_end : Bool → Tagged → List Tagged
 at_end desk last = if desk || is_quit last.task.order then last ∷ [] else last ∷ tagged_task (said (Some 0) (Ok Quit)) [] ∷ []
 

@@ -11,8 +11,9 @@ use Rattle.script_lines.specs.declared.place.At.TheVariants.{Line, Inside, Behin
 use Rattle.script_lines.specs.declared.place.Place.{Place}
 use Rattle.script_lines.specs.declared.reader.ReadError.TheVariants as error
 
--- The beginning of a body: whether the lines of the script name their clients; the word that ends it; what is ahead, where the input tells it;
--- how many bytes of the script were taken; the bytes that were read or may come, all told; and the budget and the faults of the input.
+-- The beginning of a body: whether the lines of the script name their clients, the word that ends the body, and what is
+-- ahead, if the input tells it. Then come how many bytes of the script were taken, how many bytes were read or may come in
+-- all, and the budget and the faults of the input.
 pub record Start : Type 0 where
   pub tagged : Bool
   pub word : List ℕ
@@ -82,7 +83,7 @@ pub record IsWhole (word : List ℕ) (ahead : List ℕ) (count line : ℕ) : Typ
 abbrev pub NoEnd : List ℕ → List ℕ → ℕ → Type 0
 NoEnd word ahead count = (body_of word true (take count ahead)).end ≡ None
 
--- Where the input tells what it has: what was ahead at the beginning.
+-- The fact about what was ahead at the beginning, if the input tells what it has.
 abbrev pub IfAhead : Start → (List ℕ → Type 0) → Type 0
 IfAhead s fact = (ahead : List ℕ) → s.ahead ≡ Some ahead → fact ahead
 

@@ -15,8 +15,9 @@ pub fn readers_meet_the_lines()
     ensures meets { (last : Tagged → List Tagged) (clients : Clients) (bytes : List ℕ) → script_by last clients bytes ≡ script_from last clients 0 [] bytes }
 {}
 
-/// A law: what bytes say behind a line. Nothing comes behind the line that ends the script; a line without a body is a task of its own; the
-/// body of a command and the line that ends it are its task, whatever follows, and where no line ends it all bytes are.
+/// A law: what bytes say behind a line. Nothing comes behind the line that ends the script. A line without a body is a
+/// task of its own. The body of a command and the line that ends it are its task, whatever follows. If no line ends the
+/// body, all bytes are.
 #[tactic(auto, using(crate::proofs::TaskLaws::on_end, crate::proofs::TaskLaws::on_line, crate::proofs::TaskLaws::on_body, crate::proofs::TaskLaws::on_open))]
 pub fn tasks_are_lines_with_their_bodies()
     ensures end { (last : Tagged → List Tagged) (clients : Clients) (line : Line) (more : List ℕ) → is_end clients line ≡ true

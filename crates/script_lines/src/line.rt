@@ -21,7 +21,7 @@ pub struct Line {
     pub order: Order,
 }
 
-/// What a line says, which stands without its line feed. Where lines name their clients, it begins with one.
+/// What a line says, which stands without its line feed. If lines name their clients, it begins with one.
 #[tactic(auto, unfolding(crate::specs::Clients::line_of))]
 pub(crate) fn read_line(alloc: Global, tagged: bool, line: &[u8]) -> Result<Line, ReadError>
     ensures line { IfOk result (λ said. said ≡ line_of tagged line.now) }
@@ -94,7 +94,7 @@ fn client_of(digit: u8) -> Option<u8>
     Some(digit - b'0')
 }
 
-/// The word that ends the body of a line's command, where it has one.
+/// The word that ends the body of a line's command, if it has one.
 pub fn body_word(order: &Order) -> Option<&Text>
     ensures word { option_map (λ word. word.now) result ≡ body_word order.now }
 {

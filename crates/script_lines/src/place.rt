@@ -205,7 +205,7 @@ impl Place {
         }
     }
 
-    // What stands there at the end of the input: more of the body, or nothing, where the word ends it too.
+    // What stands there at the end of the input: more of the body, or nothing, if the word ends it too.
     #[tactic(auto, using(crate::proofs::BodyLaws::word_whole))]
     fn last(&self) -> Front
         requires inside { is_open self.now.at ≡ true }

@@ -16,7 +16,8 @@ use std::marker::Model;
 /// How many bytes are read at once.
 const PIECE: usize = 32_768;
 
-/// How many bytes of a line are kept: two more than a client and his command may have, so that what is kept is too long where the line is.
+/// How many bytes of a line are kept: two more than a client and its command may have. So what is kept of a line that
+/// is too long is too long.
 const MOST_KEPT: usize = 65_541;
 
 /// The most bytes that a script may have.
@@ -122,7 +123,7 @@ impl LineReader {
         Ok(())
     }
 
-    // Whether there are unread bytes; where there are none, the next ones are read first.
+    // Whether there are unread bytes. If there are none, the next ones are read first.
     fn refill<S: Source>(&mut self, input: &mut S) -> Result<bool, Failed>
         ensures kept { before self.old.unread (S.left input.old) ≡ before self.new.unread (S.left input.new) }
         ensures tagged { self.new.tagged ≡ self.old.tagged }

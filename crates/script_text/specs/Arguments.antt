@@ -1,16 +1,11 @@
 -- The arguments of a command: which is the first that is missing, not closed or not of its form (this project's own).
 use Rattle.std.specs.Prelude.{ℕ, ◌+◌, nat_le, if◌then◌else◌, List, length, slice_get, Option, option_and_then, ok_or, Result, Ok, Err}
+use Rattle.cell_core.specs.Steps.{◌>>=◌}
 use Rattle.script_text.specs.declared.fault.ScriptFault.{ScriptFault}
 use Rattle.script_text.specs.declared.fault.ScriptFault.TheVariants.{Argument, Extra}
 use Rattle.script_text.specs.Words.{Word}
 
-infixl 10 ◌>>=◌
--- The second step, unless the first has a fault.
-abbrev pub ◌>>=◌ : {A B : Type 0} → Result A ScriptFault → (A → Result B ScriptFault) → Result B ScriptFault
-(Ok x) >>= next = next x
-(Err fault) >>= next = Err fault
-
--- The text of word n; none where the word is missing or not closed.
+-- The text of word n; none if the word is missing or not closed.
 abbrev pub text_at : List Word → ℕ → Option (List ℕ)
 text_at words n = option_and_then (λ word. word) (slice_get words n)
 

@@ -59,7 +59,7 @@ pub data Line : Type 0 where
   word : List ℕ → List Part → Line → Line
   unclosed : List ℕ → List Part → List Mark → Bool → Line
 
--- The backslash at the end of the line, where there is one.
+-- The backslash at the end of the line, if there is one.
 abbrev pub last_backslash : Bool → List ℕ
 last_backslash true = 92 ∷ []
 last_backslash false = []

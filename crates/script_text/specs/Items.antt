@@ -3,11 +3,11 @@ use Rattle.std.specs.Prelude.{ℕ, ◌+◌, nat_le, Bool, false, if◌then◌els
 use Rattle.std.specs.List.{list_any}
 use Rattle.std.specs.Option.{option_map_or}
 use Rattle.std.specs.Str.{bytes_eq}
+use Rattle.cell_core.specs.Steps.{◌>>=◌}
 use Rattle.script_text.specs.declared.fault.ScriptFault.{ScriptFault}
 use Rattle.script_text.specs.declared.fault.ScriptFault.TheVariants.{Argument}
 use Rattle.script_text.specs.Words.{Word}
 use Rattle.script_text.specs.Numbers.{split_once}
-use Rattle.script_text.specs.Arguments.{◌>>=◌}
 
 -- Key and value: what stands before the first `=`, and what stands behind it.
 abbrev pub key_and_value : Word → Option (List ℕ × List ℕ)
@@ -17,7 +17,7 @@ key_and_value word = option_and_then (split_once 61) word
 abbrev pub has_key : List Word → List ℕ → Bool
 has_key words key = list_any (λ word. option_map_or (λ parts. bytes_eq parts.0 key) (key_and_value word) false) words
 
--- Key and value of the next item, where no item before it has its key.
+-- Key and value of the next item, if no item before it has its key.
 abbrev pub new_item : List Word → Word → Option (List ℕ × List ℕ)
 new_item before word = option_and_then (λ parts. if has_key before parts.0 then None else Some parts) (key_and_value word)
 

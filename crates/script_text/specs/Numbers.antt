@@ -21,7 +21,7 @@ split_once at (byte ∷ text) = if byte == at then Some ([], text) else option_m
 unfoldable pub ends : List ℕ → Option (List ℕ × List ℕ)
 ends text = option_and_then (λ both. if slice_index_or both.1 0 0 == 46 then Some (both.0, drop 1 both.1) else None) (split_once 46 text)
 
--- The span between two ends that read as numbers, where the lower one is not above the upper one.
+-- The span between two ends that read as numbers, if the lower one is not above the upper one.
 abbrev pub between : Option ℕ → Option ℕ → Option Span
 between (Some lo) (Some hi) = if nat_le lo hi then Some (record { lo = lo; hi = hi }) else None
 between _ _ = None

@@ -1,5 +1,6 @@
 -- The one reading of a line: the command that it is, or its first fault (this project's own).
 use Rattle.std.specs.Prelude.{ℕ, ◌-◌, ◌==◌, nat_le, nat_lt, Bool, false, if◌then◌else◌, List, [], ◌∷◌, ◌++◌, length, map, take, slice_index_or, Some, None, unwrap_or, Result, Ok, Err, codes}
+use Rattle.cell_core.specs.Steps.{◌>>=◌}
 use Rattle.chess_text.specs.Filling.{board_named}
 use Rattle.game_filter.specs.declared.op.Op.{Op}
 use Rattle.game_tree.specs.Decimal.{decimal_read}
@@ -13,7 +14,7 @@ use Rattle.script_text.specs.declared.forms.SearchKind.TheVariants as kind
 use Rattle.script_text.specs.Words.{Word, words_of}
 use Rattle.script_text.specs.Forms.{by_word, side, op, search_kind, mode, switch, vars, mark_bit, filter_name, name_text, body_end}
 use Rattle.script_text.specs.Numbers.{number, index_depth}
-use Rattle.script_text.specs.Arguments.{◌>>=◌, text_at, argument, no_more, last_argument, two, three}
+use Rattle.script_text.specs.Arguments.{text_at, argument, no_more, last_argument, two, three}
 use Rattle.script_text.specs.Items.{items}
 use Rattle.script_text.specs.HeadItems.{head_item}
 use Rattle.script_text.specs.Tagging.{tag_edit}

@@ -19,8 +19,8 @@ IsMatQuery query = 1 ≤ query.streak
 abbrev pub IsDepth : Option ℕ → Type 0
 IsDepth depth = IfSome depth (λ plies. plies ≤ 40)
 
--- An edit is within the bounds of heads, a mark is one of the 18 bits, a streak has a ply, the word that ends a body and the name of a filter
--- are short, and an index is not deeper than 40 plies.
+-- A command keeps its bounds. An edit is within the bounds of heads, a mark is one of the 18 bits, and a streak has a
+-- ply. The word that ends a body and the name of a filter have at most 32 bytes, and an index is at most 40 plies deep.
 abbrev pub IsSound : Command → Type 0
 IsSound (Tag game edit) = IsEdit edit
 IsSound (Mark game bit on) = bit < 18

@@ -14,6 +14,6 @@ edit_or_fault (Err fault.Name) value = Err (Argument 2)
 edit_or_fault (Ok edit) (Some text) = Ok edit
 edit_or_fault _ _ = Err (Argument 3)
 
--- The edit of a name, and of a value where there is one.
+-- The edit of a name, and of a value if there is one.
 unfoldable pub tag_edit : List ℕ → Option (List ℕ) → Result TagEdit ScriptFault
 tag_edit name value = edit_or_fault (edit_of name (unwrap_or value [])) value

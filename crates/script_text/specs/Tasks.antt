@@ -8,7 +8,7 @@ use Rattle.script_text.specs.declared.fault.ScriptFault.{ScriptFault}
 abbrev pub Order : Type 0
 Order = Result Command ScriptFault
 
--- That, and the body of the command: no bytes where it has none.
+-- That, and the body of the command: no bytes if it has none.
 pub record Task : Type 0 where
   pub order : Order
   pub body : List ℕ
@@ -16,7 +16,7 @@ pub record Task : Type 0 where
 abbrev pub task : Order → List ℕ → Task
 task order body = record { order = order; body = body }
 
--- The word that ends the body of a line's command, where it has one; behind a faulty line no body is read.
+-- The word that ends the body of a line's command, if it has one; behind a faulty line no body is read.
 abbrev pub body_word : Order → Option (List ℕ)
 body_word (Ok (Import word)) = Some word
 body_word (Ok (Replace game word)) = Some word

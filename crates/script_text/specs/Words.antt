@@ -21,8 +21,8 @@ front bytes [] = []
 front bytes (word ∷ words) = option_map (λ text. bytes ++ text) word ∷ words
 
 -- The words of the rest of a line, the first of them being the one that the place is in. Blanks separate words. In a
--- word, a quote begins a quoted part and the next quote ends it; there blanks stand for themselves, a backslash before a
--- quote or a backslash is left out, and another backslash stands for itself.
+-- word, a quote begins a quoted part and the next quote ends it. In a quoted part blanks stand for themselves, a
+-- backslash before a quote or a backslash is left out, and another backslash stands for itself.
 unfoldable pub cut : Place → List ℕ → List Word
 cut Between [] = []
 cut Inside [] = Some [] ∷ []

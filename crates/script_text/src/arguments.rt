@@ -16,7 +16,7 @@ use crate::numbers::{demo_games, index_depth, number, twin_depth};
 use crate::words::Word;
 use cell_core::{Board, Colour};
 
-/// The text of argument `n`; the fault where the word is missing or not closed.
+/// The text of argument `n`; the fault if the word is missing or not closed.
 pub(crate) fn text_at(words: &[Word], n: u32) -> Result<&[u8], ScriptFault>
     ensures { MatchResult result (λ text. text_at words.now n ≡ Some text.now)
         (λ fault. (text_at words.now n ≡ None) × (fault ≡ Argument n)) }
@@ -25,7 +25,7 @@ pub(crate) fn text_at(words: &[Word], n: u32) -> Result<&[u8], ScriptFault>
     word.text().ok_or(ScriptFault::Argument(n))
 }
 
-/// The fault where a word, closed or not, follows `n` arguments.
+/// The fault if a word, closed or not, follows `n` arguments.
 pub(crate) fn no_more(words: &[Word], n: u32) -> Result<(), ScriptFault>
     requires { n ≤ 9 }
     ensures { result ≡ no_more n words.now }

@@ -27,7 +27,7 @@ pub(crate) fn board(word: &[u8]) -> Option<Board>
 /// What a search looks at.
 #[derive(Clone, Copy, Debug, PartialEq, Eq)]
 pub(crate) enum SearchKind {
-    /// The positions of the main line, and of variations where asked.
+    /// The positions of the main line, and of variations if asked.
     Position,
     /// The counts of men along the main line.
     Material,

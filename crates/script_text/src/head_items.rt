@@ -14,7 +14,7 @@ use game_tree::Outcome;
 use sig_index::{HeadQuery, Span};
 use std::alloc::Global;
 
-/// The query with the value of an item, or `None` where no item has the key, or the value is not of its form.
+/// The query with the value of an item, or `None` if no item has the key, or the value is not of its form.
 #[tactic(auto, unfolding(crate::specs::HeadItems::head_item))]
 pub(crate) fn head_item(
     alloc: Global,

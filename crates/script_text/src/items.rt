@@ -42,7 +42,7 @@ fn has_key(words: &[Word], key: &[u8]) -> bool
     words.iter().any(|word| is_keyed(key, word))
 }
 
-// Key and value of the next item, where no item before it has its key.
+// Key and value of the next item, if no item before it has its key.
 fn new_item<'a>(before: &[Word], word: &'a Word) -> Option<(&'a [u8], &'a [u8])>
     ensures { option_map (λ parts. (parts.0.now, parts.1.now)) result ≡ new_item before.now word.now }
 {

@@ -7,7 +7,7 @@ use crate::numbers::span_within;
 use game_tree::read_decimal;
 use sig_index::MatQuery;
 
-/// The query with the value of an item, or `None` where no item has the key, or the value is not of its form.
+/// The query with the value of an item, or `None` if no item has the key, or the value is not of its form.
 #[tactic(auto, unfolding(crate::specs::MatItems::mat_item))]
 pub(crate) fn mat_item(mut query: MatQuery, key: &[u8], value: &[u8]) -> Option<MatQuery>
     ensures added { result ≡ mat_item query key.now value.now }

@@ -92,7 +92,7 @@ fn ends(text: &[u8]) -> Option<(&[u8], &[u8])>
     }
 }
 
-// The span between two numbers, where the lower one is not above the upper one.
+// The span between two numbers, if the lower one is not above the upper one.
 fn between(lo: u64, hi: u64) -> Option<Span>
     ensures { result ≡ between (Some lo) (Some hi) }
 {

@@ -11,7 +11,7 @@ use std::alloc::Global;
 use std::marker::Model;
 use std::mem::replace;
 
-/// A word of a line: its bytes without quotes and escapes, or nothing where a quoted part in it is not closed.
+/// A word of a line: its bytes without quotes and escapes, or nothing if a quoted part in it is not closed.
 #[derive(Debug, Drop)]
 pub(crate) struct Word {
     text: Option<Vec<u8>>,

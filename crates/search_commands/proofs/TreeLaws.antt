@@ -1,74 +1,22 @@
 -- Laws of `tree`.
-use Rattle.std.proofs.Common.{◌≡◌, ℕ, Option, Some, None, refl, ◌+◌, List, [], ◌∷◌, ◌++◌, All, map, option_map, ap, ◌∙◌, ◌≤◌, sym, zero, suc, take, append_assoc, append-nil, add-one, length}
+use Rattle.std.proofs.Common.{◌≡◌, ℕ, Option, Some, ◌+◌, List, [], ◌∷◌, ◌++◌, All, ap, ◌∙◌, ◌≤◌, sym, zero, suc, take, append_assoc, append-nil, add-one, length}
 use Rattle.std.proofs.lemmas.List.{take_all}
 use Rattle.std.proofs.lemmas.List.Elements.{All-nil, All-same}
-use Rattle.std.proofs.lemmas.Option.{slice_get-map, get_or_from_slice_get, same_Some}
+use Rattle.std.proofs.lemmas.Option.{same_Some}
 use Rattle.std.specs.Prelude.{slice_get}
-use Rattle.base_core.proofs.GamesLaws.{heads-are}
-use Rattle.base_core.specs.Base.{Held, Base}
-use Rattle.base_core.specs.Represents.{Kept, Represents, heads_of}
-use Rattle.cell_core.specs.declared.man.Colour.{Colour}
-use Rattle.cell_core.specs.declared.man.Colour.TheVariants.{White, Black}
-use Rattle.cell_core.specs.declared.step.Move.{Move}
-use Rattle.cell_core.proofs.Packing.{given_back}
-use Rattle.game_tree.specs.Head.{without_tags}
-use Rattle.game_tree.specs.declared.head.Head.{Head}
-use Rattle.pos_search.specs.Matching.{IsLegalFrom, hit_of as found_of}
-use Rattle.sig_index.specs.Games.{head_in}
-use Rattle.sig_index.specs.declared.pos_query.Mode.TheVariants.{Exact}
+use Rattle.base_core.specs.Base.{Held}
 use Rattle.sig_index.specs.declared.pos_query.PosQuery.{PosQuery}
-use Rattle.tree_rows.specs.Hits.{hit_of}
 use Rattle.tree_rows.specs.MoveText.{IsKey}
 use Rattle.tree_rows.specs.Rows.{rows_of}
 use Rattle.tree_rows.specs.declared.hit.GameHit.{GameHit}
 use Rattle.tree_rows.specs.declared.row.Row.{Row}
 use Rattle.tree_rows.proofs.HitKeys.{keys-hold}
-use Rattle.search_commands.specs.Trees.{hit_if_in, listed_hit, tree_hits}
-use Rattle.shell_state.specs.Slots.{hit_of_game}
-
--- The move after an exact match is a key of the tree.
-pub key-from : (query : PosQuery) (ply : ℕ) (next : Option Move) → length query.board ≡ 64 → query.mode ≡ Exact → IsLegalFrom query (Some (ply, next))
-    → IsKey query.board query.side next
-key-from query ply None squares exact legal = tt
-key-from query ply (Some m) squares exact legal =
-    let from = legal ply m exact refl in
-    record {
-      position = from.position;
-      sound = from.sound;
-      board = from.board ∙ given_back query.board squares;
-      to_move = from.to_move;
-      legal = from.legal;
-    }
-
--- What is counted of a game does not look at its tags.
-untagged : (next : Option Move) (side : Colour) (head : Head) → hit_of next side (without_tags head) ≡ hit_of next side head
-untagged next White head = refl
-untagged next Black head = refl
+use Rattle.shell_state.specs.Meeting.{hit_if_in, listed_hit, tree_hits}
 
 -- The rows of no hit have no key.
 pub no-keys : (query : PosQuery) (rows : List Row) → rows ≡ rows_of [] → All (λ (row : Row). IsKey query.board query.side row.key) rows
 no-keys query rows is =
     All-same (λ (row : Row). IsKey query.board query.side row.key) rows (rows_of []) is (keys-hold (IsKey query.board query.side) [] (All-nil (λ (hit : GameHit). IsKey query.board query.side hit.next)))
-
--- The game at a place.
-pub game-at : (games : List Held) (i : ℕ) (held : Held) → slice_get games i ≡ Some held → slice_get (map (λ (h : Held). h.game) games) i ≡ Some held.game
-game-at games i held at = slice_get-map (λ (h : Held). h.game) games i ∙ ap (option_map (λ (h : Held). h.game)) at
-
--- The hit of a game, by the head that the base keeps and by what the search found.
-pub hit-read : (kept : Kept) (games : List ℕ) (base : Base) (held : Held) (i : ℕ) (query : PosQuery) (ply : ℕ) (next : Option Move) (hit : GameHit)
-    → Represents kept games base → slice_get base.games i ≡ Some held → Some (ply, next) ≡ found_of query held.game
-    → hit ≡ hit_of next query.side (head_in (heads_of kept) i) → Some hit ≡ hit_of_game query held
-hit-read kept games base held i query ply next hit is at found counted =
-    let bare : Held → Head = λ h. without_tags h.head in
-    let there : slice_get (heads_of kept) i ≡ Some (bare held) =
-    ap (λ (heads : List Head). slice_get heads i) (heads-are kept games base is) ∙ (slice_get-map bare base.games i ∙ ap (option_map bare) at) in
-    let same : head_in (heads_of kept) i ≡ bare held = get_or_from_slice_get (heads_of kept) i (bare held) _ there in
-    ap (λ (h : GameHit). Some h) (counted ∙ (ap (hit_of next query.side) same ∙ untagged next query.side held.head))
-    ∙ ap (λ (f : Option (ℕ × Option Move)). option_map (λ (x : ℕ × Option Move). hit_of x.1 query.side held.head) f) found
-
--- A game that the search did not find has none.
-pub none-read : (held : Held) (query : PosQuery) → None ≡ found_of query held.game → None ≡ hit_of_game query held
-none-read held query found = ap (λ (f : Option (ℕ × Option Move)). option_map (λ (x : ℕ × Option Move). hit_of x.1 query.side held.head) f) found
 
 -- The hits of the games that are in, one game more.
 more : (query : PosQuery) (i : ℕ) (plies : List (Option ℕ)) (games : List Held) (ply : Option ℕ) (held : Held) → slice_get plies i ≡ Some ply → slice_get games i ≡ Some held

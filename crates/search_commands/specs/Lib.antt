@@ -1,2 +1,4 @@
 pub mod Searching
 pub mod Trees
+pub mod Demo
+pub mod Demoing

@@ -11,10 +11,10 @@ use Rattle.head_search.specs.Matching as head
 use Rattle.mat_search.specs.Matching as material
 use Rattle.mat_search.specs.Passing.{passes as material_passes}
 use Rattle.pos_search.specs.Matching as position
-use Rattle.pos_search.specs.Searching.{is_read}
 use Rattle.sig_index.specs.declared.head_query.HeadQuery.{HeadQuery}
 use Rattle.sig_index.specs.declared.mat_query.MatQuery.{MatQuery}
 use Rattle.sig_index.specs.declared.pos_query.PosQuery.{PosQuery}
+use Rattle.shell_state.specs.Meeting.{position_len}
 use Rattle.shell_state.specs.Lines.{filter_line, hits_text}
 use Rattle.shell_state.specs.Passing.{searched_len}
 use Rattle.shell_state.specs.Slots.{exactly}
@@ -28,7 +28,8 @@ search_position_after s op query = with_filter s (searched op (position.firsts_o
 abbrev pub search_position_text : State → Op → PosQuery → List ℕ
 search_position_text s op query = filter_line (search_position_after s op query).seat.filter
 
--- The first ply at which the head of a game is one that is asked for: 0, or none where it is not. More than 1,023 plies count as 1,023.
+-- The first ply at which the head of a game is one that is asked for: 0, or none if it is not one. More than 1,023
+-- plies count as 1,023.
 abbrev pub first_by_head : HeadQuery → Held → Option ℕ
 first_by_head query held = head.first_of query held.head (min (plies_of held.game) 1023)
 
@@ -40,10 +41,7 @@ search_header_after s op query = with_filter s (searched op (map (first_by_head 
 abbrev pub search_material_after : State → Op → MatQuery → State
 search_material_after s op query = with_filter s (searched op (material.firsts_of query (games_of s)) s.seat.filter)
 
--- The bytes of the records that a search for a position reads, those that the index does not decide, and one for counts of men.
-abbrev pub position_len : Op → PosQuery → List Look → List (Option ℕ) → ℕ
-position_len op query looks plies = searched_len (λ look. look.len) (λ look. is_read query look.places look.sig) op plies looks
-
+-- The bytes of the records that a search for counts of men reads.
 abbrev pub material_len : Op → MatQuery → List Look → List (Option ℕ) → ℕ
 material_len op query looks plies = searched_len (λ look. look.len) (λ look. material_passes look.sig query) op plies looks
 

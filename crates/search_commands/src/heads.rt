@@ -7,7 +7,7 @@ use head_search::search;
 use shell_state::{Line, Machine, filter_line};
 use sig_index::HeadQuery;
 
-/// search OP header ITEM ..
+/// The command `search OP header ITEM ..`: matches games by their heads, and gives its line.
 pub fn search_header(machine: &mut Machine, op: Op, query: &HeadQuery) -> Line
     requires fits { Fits machine.old }
     ensures quiet { Quiet machine.old (search_header_work op query.now) machine.new result.items }

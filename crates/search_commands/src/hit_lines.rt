@@ -16,7 +16,7 @@ use game_filter::Filter;
 use shell_state::{Halt, Machine, PIECE, count_line, hit_line};
 use std::alloc::AllocError;
 
-/// hits
+/// The command `hits`: writes a line for each game of the filter, and then that of the filter.
 pub fn hits<K: Sink>(machine: &mut Machine, out: &mut K) -> Result<(), Halt>
     ensures same { machine.new ≡ machine.old }
     ensures serves { (seen : Seen) (s : State) → Stands machine.old seen s → Serves works (Stands machine.new seen) Broken s hits_work (K.taken out.old) (K.taken out.new) result }
@@ -64,7 +64,7 @@ fn put_hits<K: Sink>(filter: &Filter, text: &mut Vec<u8>, out: &mut K) -> Result
     write_all(out, text.as_slice())
 }
 
-// Puts the line of a game behind the text, if it is in, and writes the text where it is long enough.
+// Puts the line of a game behind the text, if it is in, and writes the text if it is long enough.
 fn put_game<K: Sink>(
     text: &mut Vec<u8>,
     game: u32,

@@ -18,7 +18,7 @@ use mat_search::search;
 use shell_state::{Halt, Machine};
 use sig_index::{Games, MatQuery};
 
-/// search OP material ITEM ..: it leaves the games that are in, and writes nothing yet.
+/// The command `search OP material ITEM ..`: leaves in the filter the games that are in then, and writes nothing yet.
 pub fn material_games<F: Files>(
     machine: &mut Machine,
     files: &mut F,

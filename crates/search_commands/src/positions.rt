@@ -25,7 +25,7 @@ use pos_search::search;
 use shell_state::{Halt, Machine, write_filter};
 use sig_index::{Games, Mode, PosQuery};
 
-/// find BOARD SIDE: it leaves the games that are in, and writes nothing yet.
+/// The command `find BOARD SIDE`: leaves in the filter the games that are in then, and writes nothing yet.
 pub fn find_games<F: Files>(
     machine: &mut Machine,
     files: &mut F,
@@ -50,7 +50,8 @@ pub fn find_games<F: Files>(
     position_games(machine, files, Op::Ignore, &query)
 }
 
-/// search OP position MODE BOARD SIDE, and the same with vars
+/// The command `search OP position MODE BOARD SIDE`, with `vars` or without: matches games that reach such a position,
+/// and writes its line.
 #[tactic(auto, using(shell_state::proofs::Causing::unsaid_without))]
 pub fn search_position<F: Files, K: Sink>(
     machine: &mut Machine,

@@ -1,5 +1,5 @@
 //! The command that writes the opening tree of the games that are in.
-ghost use Rattle.std.specs.Prelude.{◌≡◌, ◌≤◌, ◌<◌, ◌+◌, ◌++◌, ℕ, if◌then◌else◌, List, Option, Some, Ok, All, length, map, option_copied, slice_get, IfOk, IfErr, IfSome, OnOk};
+ghost use Rattle.std.specs.Prelude.{◌≡◌, ◌≤◌, ◌<◌, ◌+◌, ◌++◌, ℕ, List, Option, Some, Ok, All, length, map, option_copied, slice_get, IfOk, IfErr, OnOk};
 ghost use Rattle.base_core.specs.Base.{Base as PlainBase, Held};
 ghost use Rattle.base_core.specs.Represents.{IsSound, Represents, extents_of, sigs_of};
 ghost use Rattle.base_files.specs.Counters.{raised};
@@ -17,25 +17,25 @@ ghost use Rattle.sig_index.specs.declared.pos_query.Mode.TheVariants.{Exact};
 ghost use Rattle.tree_rows.specs.MoveText.{IsKey};
 ghost use Rattle.tree_rows.specs.Rows.{AreRows, rows_of};
 ghost use Rattle.tree_rows.specs.declared.hit.GameHit.{GameHit as Hit};
-ghost use Rattle.search_commands.specs.Trees.{hit_if_in, listed_hit, tree_hits, tree_of, tree_work};
+ghost use Rattle.search_commands.specs.Trees.{tree_work};
 ghost use Rattle.shell_state.specs.Ends.{IsDevice, Unsaid};
-ghost use Rattle.shell_state.specs.Slots.{hit_of_game};
 ghost use Rattle.shell_state.specs.Stands.{Stands, Sound, Broken, WhyHalt, Asks, AsksAll};
 ghost use Rattle.shell_state.specs.State.{State};
 ghost use Rattle.shell_state.specs.Work.{works};
+ghost use Rattle.shell_state.specs.Meeting.{hit_if_in, listed_hit, tree_hits, tree_of};
 
 use base_core::Base;
 use base_files::{Files, Sink, Stop};
 use cell_core::{Board, Colour};
 use game_filter::Filter;
 use pos_index::{BoardHits, PosIndex};
-use pos_search::{Sought, hit_sought, hits_told};
-use shell_state::{Halt, Machine, counted, write_line};
+use pos_search::{Sought, hits_told};
+use shell_state::{Halt, Machine, read_hit, write_line};
 use sig_index::{Mode, PosQuery};
 use std::alloc::{AllocError, Global};
-use tree_rows::{GameHit, Rows, lines};
+use tree_rows::{Rows, lines};
 
-/// tree BOARD SIDE
+/// The command `tree BOARD SIDE`: writes the moves that the games of the filter made there.
 #[tactic(auto, using(shell_state::proofs::Causing::unsaid_without))]
 pub fn tree<F: Files, K: Sink>(
     alloc: Global,
@@ -151,6 +151,7 @@ fn read_rows<F: Files>(
 }
 
 // Counts the hit of a game in the rows of those before it, if the game is in and meets the position.
+#[inline(always)]
 fn add_game<F: Files>(
     rows: &mut Rows,
     base: &Base,
@@ -192,39 +193,5 @@ fn add_game<F: Files>(
     match rows.add_hit(&hit) {
         Ok(()) => Ok(()),
         Err(AllocError) => Err(Halt::Device(Stop::Memory)),
-    }
-}
-
-/// The hit of a game, if it meets the position. Its record is read into `block` if it can and the index does not decide it.
-pub fn read_hit<F: Files>(
-    base: &Base,
-    i: u32,
-    query: &Sought<'_>,
-    told: &mut BoardHits<'_>,
-    files: &mut F,
-    block: &mut [u8],
-) -> Result<Option<GameHit>, Halt>
-    requires exact { query.now.mode ≡ Exact }
-    requires squares { length query.now.board ≡ 64 }
-    requires legal { AreLegalHits query.now told.old }
-    requires there { i < length base.now.entries }
-    requires sound { IsSound base.now }
-    requires room { length block.old ≡ 131072 }
-    requires within { base.now.end ≤ (F.seen files.old).known }
-    ensures same { told.new ≡ told.old }
-    ensures hit { (contents : List ℕ) (all : PlainBase) (held : Held) (index : Option Index) → (F.seen files.old).games ≡ Some contents → Represents base.now contents all → slice_get all.games i ≡ Some held
-        → told.old ≡ hits_told query.now (rows_told index) → IndexesAll index (map (λ h. h.game) all.games) → IfOk result (λ hit. hit ≡ hit_of_game query.now held) }
-    ensures devices { (told : List ℕ) (all : PlainBase) → (F.seen files.old).games ≡ Some told → Represents base.now told all → IfErr result IsDevice }
-    ensures key { IfOk result (λ hit. IfSome hit (λ found. IsKey query.now.board query.now.side found.next)) }
-    ensures room { length block.new ≡ 131072 }
-    ensures unchanged { F.seen files.new ≡ F.seen files.old }
-    ensures asks { (sig : Sig) (rows : List (List Place)) → slice_get (sigs_of base.now) i ≡ Some sig → told.old ≡ hits_told query.now rows → F.asked files.new ≤ F.asked files.old + (if is_read query.now (places_in rows i) sig then (extent_in (extents_of base.now) i).len else 0) }
-    ensures asked { (sig : Sig) (rows : List (List Place)) → slice_get (sigs_of base.now) i ≡ Some sig → told.old ≡ hits_told query.now rows → OnOk result (raised (F.asked files.old) (if is_read query.now (places_in rows i) sig then (extent_in (extents_of base.now) i).len else 0) ≤ F.asked files.new) }
-    ensures causes { Causes WhyHalt result (counts (F.faults files.old) 0 0) (counts (F.faults files.new) 0 0) }
-{
-    match hit_sought(base, i, query, told, files, block) {
-        Ok(Some((_, next))) => Ok(Some(counted(base, i, next, query.side()))),
-        Ok(None) => Ok(None),
-        Err(error) => Err(Halt::from(error)),
     }
 }

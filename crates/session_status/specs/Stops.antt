@@ -35,7 +35,7 @@ status_of_reading reading.Failed = status.ReadFault
 status_of_reading reading.TooLong = status.InputTooLong
 status_of_reading reading.Memory = status.Memory
 
--- A command was broken off over its body: where a read of the body failed, by why the body is read no further.
+-- A command was broken off over its body: if a read of the body failed, by why the body is read no further.
 abbrev pub status_in_body : Halt → Option ReadError → Status
 status_in_body (halt.Device stop.Read) (Some error) = status_of_reading error
 status_in_body halt _ = status_of_halt halt

@@ -13,11 +13,16 @@ use std::test::Fail;
 use tree_live::{TableView, TreeView};
 use tree_rows::GameHit;
 
-/// What a client sees: how many games his two slots count, how many are in his filter, and the ply of the second game there.
+/// What a client sees: how many games its two slots count, how many are in its filter, and the ply of the second game
+/// there.
 type Seen = (u32, u32, u32, Option<u32>);
 
-// What he sees after four changes of his own, counted by hand, with the second game at ply 5 before: a game comes in that his first slot counts;
-// the second one is replaced by one that no slot counts; it gets another head, and both count it; the one that came in goes.
+// What a client sees after four changes of its own, counted by hand, with the second game at ply 5 before:
+//
+// - A game comes in that the client's first slot counts.
+// - The second game is replaced by one that no slot counts.
+// - It gets another head, and both slots count it.
+// - The game that came in goes.
 const OWN: [Seen; 4] = [
     (3, 1, 3, Some(5)),
     (2, 0, 3, Some(0)),
@@ -25,7 +30,7 @@ const OWN: [Seen; 4] = [
     (2, 1, 2, Some(0)),
 ];
 
-// What he sees after those of another.
+// What it sees after those of another client.
 const OTHERS: [Seen; 4] = [
     (2, 1, 2, Some(0)),
     (1, 0, 2, Some(0)),
@@ -182,7 +187,7 @@ fn change_more(
     Ok(())
 }
 
-// All four watch, and then each makes his changes.
+// All four watch, and then each makes its changes.
 fn change_by_each(
     rt: &impl Abort,
     alloc: Global,

@@ -1,4 +1,4 @@
-//! Tests alone: sessions over devices in memory, four clients on one base, and the lines of scripts.
+//! Tests alone: sessions over devices in memory, and four clients on one base.
 #![tactic(auto)]
 
 #[cfg(test)]
@@ -7,8 +7,6 @@ mod base;
 mod change_tests;
 #[cfg(test)]
 mod file_tests;
-#[cfg(test)]
-mod line_tests;
 #[cfg(test)]
 mod ready;
 #[cfg(test)]

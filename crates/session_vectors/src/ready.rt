@@ -38,7 +38,7 @@ pub(crate) fn watch(
     desk.seat_mut(by).watch(alloc, views, k, board, hits)
 }
 
-/// A client sets his filter.
+/// A client sets its filter.
 pub(crate) fn filter(
     alloc: Global,
     desk: &mut Desk,

@@ -18,13 +18,14 @@ const WATCH_AND_IMPORT: &[u8] =
 const IMPORT_WATCH_AND_IMPORT: &[u8] =
     b"import <<X\n1. d4 *\nX\nwatch 0 rnbqkbnr/pppppppp/8/8/8/8/PPPPPPPP/RNBQKBNR w\nimport <<X\n1. c4 *\nX\n";
 
-/// Each kind of command that may change a row: a tag and a deletion change none, `clear` and `reset` the one, each game that comes in one, and
-/// a game that goes one.
+/// Each kind of command that may change a row. A tag and a deletion change none, `clear` and `reset` the one, each game
+/// that comes in one, and a game that goes one.
 const FOLLOW: &[u8] =
     b"watch 0 rnbqkbnr/pppppppp/8/8/8/8/PPPPPPPP/RNBQKBNR w\ntag 0 White A\nclear\nreset\nimport <<X\n1. d4 *\n\n1. e4 *\nX\ndelete 1\ncompact\n";
 
-/// Sessions over a base of one game and one view, which refuses the put of this number, if of any: what is written, and how many rows the view
-/// shows at the end and how many changes it was told, if it is still there. A slot that is watched is cleared first.
+/// Sessions over a base of one game and one view, which refuses the put of this number, if of any. Each has what is
+/// written. If the view is still there, it also has how many rows the view shows at the end and how many changes it was
+/// told. A slot that is watched is cleared first.
 type Session = (
     &'static [u8],
     Option<u64>,

@@ -29,10 +29,10 @@ use Rattle.game_tree.specs.Game.{GameTree}
 use Rattle.game_tree.specs.TagEdit.{edited}
 use Rattle.game_tree.specs.declared.head.Head.{Head}
 use Rattle.game_tree.specs.declared.tag_edit.TagEdit.{TagEdit}
-use Rattle.intake_commands.proofs.DemoLaws.{unless_shown}
-use Rattle.intake_commands.specs.Demo.{Adding, adding}
+use Rattle.search_commands.proofs.DemoLaws.{unless_shown, unless_ended, unless_refusal}
+use Rattle.search_commands.specs.Demo.{Adding, adding}
 use Rattle.intake_commands.specs.Importing.{Intake, intake, item_after, none_taken, state_with, the_new}
-use Rattle.intake_commands.proofs.ByCase.{unless_ended, unless_not_added, unless_refusal}
+use Rattle.intake_commands.proofs.ByCase.{unless_not_added}
 use Rattle.pgn_read.specs.Items.{items_of}
 use Rattle.pgn_read.specs.declared.item.Item.{Item}
 use Rattle.pgn_read.specs.declared.item.Item.TheVariants.{Bad, Good}

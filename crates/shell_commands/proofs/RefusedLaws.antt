@@ -28,10 +28,10 @@ use Rattle.edit_commands.specs.Compacting.{compacted_line, compacted_state, is_w
 use Rattle.edit_commands.proofs.TagLaws.{tag_line_there, tagged_there, unless_refused}
 use Rattle.edit_commands.proofs.EditLaws.{edited_there, line_there}
 use Rattle.filter_seat.specs.SavedFilters.{dropped_in, is_kept, joined_with, kept_at, place_of}
-use Rattle.intake_commands.proofs.DemoLaws.{unless_said, unless_shown}
-use Rattle.intake_commands.specs.Demo.{Adding, adding, one_more}
+use Rattle.search_commands.proofs.DemoLaws.{unless_said, unless_shown, unless_ended, unless_refusal}
+use Rattle.search_commands.specs.Demo.{Adding, adding, one_more}
 use Rattle.intake_commands.specs.Importing.{Intake, intake, item_after, line_with, none_taken, state_with, the_new}
-use Rattle.intake_commands.proofs.ByCase.{unless_ended, unless_not_added, unless_refusal}
+use Rattle.intake_commands.proofs.ByCase.{unless_not_added}
 use Rattle.report_commands.specs.Classifying.{state_by, text_by}
 use Rattle.shell_commands.specs.Refused.{IsError}
 use Rattle.shell_commands.specs.Tasks.{command_work, order_work, tasks}

@@ -7,7 +7,7 @@ use Rattle.command_runs.specs.Endings.{Serves}
 use Rattle.script_text.specs.Tasks.{Order, Task, body_word, task}
 use Rattle.script_text.specs.declared.command.Command.{Command}
 use Rattle.script_text.specs.declared.command.Command.TheVariants.{Compact, Demo, Import, Replace, Eco, Save}
-use Rattle.intake_commands.specs.Demo.{demo_price}
+use Rattle.search_commands.specs.Demo.{demo_price}
 use Rattle.shell_state.proofs.CarryLaws.{if_err, settled_of}
 use Rattle.shell_state.proofs.PriceLaws.{asked_told}
 use Rattle.shell_state.specs.Carrying.{Settled}

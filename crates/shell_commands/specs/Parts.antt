@@ -4,8 +4,15 @@ use Rattle.script_text.specs.declared.command.Command.TheVariants.{Nothing, Find
 use Rattle.shell_commands.specs.declared.parts.Part.{Part}
 use Rattle.shell_commands.specs.declared.parts.Part.TheVariants.{Edits, Games, Intake, Lines, Searches, Slots, Texts}
 
--- Those on slots, those that change the filter or games and use no file, those that search games which they read, the one that takes games in,
--- those that edit games and use the files, the others that change games, and those that leave slots, filter and games.
+-- The parts of the commands:
+--
+-- - those on slots,
+-- - those that change the filter or games and use no file,
+-- - those that search games which they read,
+-- - the one that takes games in,
+-- - those that edit games and use the files,
+-- - the others that change games,
+-- - those that leave slots, filter and games.
 abbrev pub part_of : Command → Part
 part_of Nothing = Texts
 part_of (Find board side) = Searches

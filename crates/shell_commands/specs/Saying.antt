@@ -6,7 +6,7 @@ use Rattle.command_runs.specs.Endings.{Halted}
 use Rattle.shell_state.specs.Ends.{IsOutput}
 use Rattle.shell_state.specs.declared.halt.Halt.{Halt}
 
--- The line was written, or a front part of it; nothing where memory ran out before there was one.
+-- The line was written, or a front part of it; nothing if memory ran out before there was one.
 abbrev pub Said : {A E : Type 0} → Result (Vec ℕ) E → Result A Halt → Option (List ℕ) → Option (List ℕ) → Type 0
 Said (Ok line) (Ok x) told told' = told' ≡ adds told line.items
 Said (Ok line) (Err e) told told' = Halted [] line.items told told' × IsOutput e

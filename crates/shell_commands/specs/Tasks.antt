@@ -12,7 +12,7 @@ use Rattle.edit_commands.specs.Saving.{save_work}
 use Rattle.filter_commands.specs.Filters.{drop_work, filtering, join_work, keep_work}
 use Rattle.game_filter.specs.Filter.{all_in, all_out, intersection, negated, restricted, union}
 use Rattle.index_commands.specs.Indexing.{index_work}
-use Rattle.intake_commands.specs.Demo.{demo_work}
+use Rattle.search_commands.specs.Demo.{demo_work}
 use Rattle.intake_commands.specs.Importing.{import_work, replace_work}
 use Rattle.report_commands.specs.Classifying.{eco_work}
 use Rattle.report_commands.specs.Crosstables.{cross_work}
@@ -31,7 +31,7 @@ use Rattle.text_commands.specs.Showing.{info_work, quit_work}
 use Rattle.view_commands.specs.Views.{all_slots, unwatch_work, view_work, watch_work}
 use Rattle.view_commands.specs.declared.window.Window.{Window}
 
--- What a command does with its body, where it has one, for a user with these slots of his own.
+-- What a command does with its body, if it has one, for a user with these slots.
 abbrev pub command_work : Window → Command → List ℕ → Work
 command_work w Nothing body = quiet (λ s. s) (λ s. [])
 command_work w (Find board side) body = find_work board side
@@ -101,7 +101,7 @@ writes_early (Ok Export) = true
 writes_early (Ok (Demo seed games)) = true
 writes_early _ = false
 
--- What is known of the files where a task was broken off that leaves a base in their place: nothing of its text was written, or they carry what
+-- What is known of the files if a task was broken off that leaves a base in their place: nothing of its text was written, or they carry what
 -- the state behind it says.
 abbrev pub SettledTask : Seen → Window → State → Task → Option (List ℕ) → Option (List ℕ) → Type 0
 SettledTask seen w s t told told' = IfSome (order_left t.order) (λ left. Settled seen ((tasks w).after s t) told told')

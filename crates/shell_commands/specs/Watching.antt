@@ -9,24 +9,26 @@ use Rattle.tree_rows.specs.declared.row.Row.{Row}
 use Rattle.view_commands.specs.Views.{AreRight, AreToldAtMost, changes_of, is_own, is_shown, slot_hits}
 use Rattle.view_commands.specs.declared.window.Window.{Window}
 
--- Whether a line of a user watches a slot, which is one of his own.
+-- Whether a line of a user watches a slot, which is one of the user's own.
 abbrev pub watches : Window → Order → ℕ → Bool
 watches w (Ok (Watch slot board side)) i = nat_lt slot w.count && (w.first + slot == i)
 watches w order i = false
 
--- The slots whose views his line may change in a state: those of his own that show trees, and the one that it watches.
+-- The slots whose views a user's line may change in a state: the user's own that show trees, and the one that it
+-- watches.
 abbrev pub touches : Window → State → Order → ℕ → Bool
 touches w s order i = (is_own w i && is_shown (slot_at s.slots i)) || watches w order i
 
--- How many changes his task tells the view of a slot at most: none where it is not his own; one for each row that differs behind it; where it
--- watches the slot, one more than hits are shown then.
+-- How many changes a user's task tells the view of a slot at most. A slot that is not the user's own is told none. A
+-- slot that the line watches is told one more than hits are shown then. Any other is told one for each row that differs
+-- behind the task.
 abbrev pub most_told : Window → State → Task → ℕ → ℕ
 most_told w s t i =
     if is_own w i
     then (if watches w t.order i then 1 + length (slot_hits ((tasks w).after s t) (slot_at ((tasks w).after s t).slots i)) else changes_of s ((tasks w).after s t) (slot_at s.slots i))
     else 0
 
--- His views are right behind it, and were told no more.
+-- The user's views are right behind it, and were told no more.
 pub record ViewsDone {B : Type 0} (rows : B → List Row) (told : B → ℕ) (w : Window) (s : State) (t : Task) (before after : List (Option B)) : Type 0 where
   pub right : AreRight rows w ((tasks w).after s t) after
   pub counted : AreToldAtMost told (most_told w s t) before after

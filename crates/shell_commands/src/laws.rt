@@ -23,7 +23,7 @@ pub fn refused_tasks_change_nothing()
         → ((word : List ℕ) → t.order ≡ Ok (Import word) → ⊥) → ((seed games : ℕ) → t.order ≡ Ok (Demo seed games) → ⊥) → (tasks w).after s t ≡ s }
     ensures imported { (w : Window) (s : State) (word body : List ℕ) → (more : List Held) × (((tasks w).after s (task (Ok (Import word)) body)).shared.base.games ≡ s.shared.base.games ++ more) }
     ensures made { (w : Window) (s : State) (seed games : ℕ) (body : List ℕ) → (more : List Held) × (((tasks w).after s (task (Ok (Demo seed games)) body)).shared.base.games ≡ s.shared.base.games ++ more) }
-    // Where no game is added the state is as it was: of `demo` where it ends with the error line of a game, since else it searches.
+    // If no game is added, the state is as it was. Of `demo` this holds if it ends with the error line of a game, since else it searches.
     ensures imported_none { (w : Window) (s : State) (word body : List ℕ) → ((tasks w).after s (task (Ok (Import word)) body)).shared.base.games ≡ s.shared.base.games → (tasks w).after s (task (Ok (Import word)) body) ≡ s }
     ensures made_none { (w : Window) (s : State) (seed games : ℕ) (body : List ℕ) → IsError ((tasks w).text s (task (Ok (Demo seed games)) body)) → ((tasks w).after s (task (Ok (Demo seed games)) body)).shared.base.games ≡ s.shared.base.games → (tasks w).after s (task (Ok (Demo seed games)) body) ≡ s }
 {}
@@ -34,8 +34,8 @@ pub fn filters_fit()
     ensures script { (w : Window) (created : Bool) (slots : List Slot) (base : Base) (done : List Task) → HasFilters (after_all (tasks w) (begin created slots base) done) }
 {}
 
-/// A law: what the slots show stays as it is, but for a task that watches one, or watches it no more, and a slot that is not the user's own
-/// stays behind each of his tasks. None comes or goes.
+/// A law: what the slots show stays as it is, but for a task that watches one, or watches it no more. A slot that is
+/// not the user's own stays behind each of the user's tasks. None comes or goes.
 pub fn slots_stay()
     ensures stay { (w : Window) (s : State) (t : Task) → ((k : ℕ) (board : Men) (side : Colour) → t.order ≡ Ok (Watch k board side) → ⊥) → ((k : ℕ) → t.order ≡ Ok (Unwatch k) → ⊥) → ((tasks w).after s t).slots ≡ s.slots }
     ensures others { (w : Window) (s : State) (t : Task) (i : ℕ) → is_own w i ≡ false → slot_at ((tasks w).after s t).slots i ≡ slot_at s.slots i }

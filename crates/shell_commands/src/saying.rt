@@ -9,7 +9,7 @@ use base_files::{Sink, Stop};
 use shell_state::{Halt, write_line};
 use std::alloc::AllocError;
 
-// Writes the line, where memory sufficed for it.
+// Writes the line, if memory sufficed for it.
 #[tactic(auto, using(crate::proofs::SayLaws::said_by))]
 pub(crate) fn say<K: Sink>(out: &mut K, answer: Result<Vec<u8>, AllocError>) -> Result<(), Halt>
     ensures said { Said answer result (K.taken out.old) (K.taken out.new) }

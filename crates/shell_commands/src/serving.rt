@@ -5,7 +5,7 @@ ghost use Rattle.command_runs.specs.Endings.{NoneLost, Serves};
 ghost use Rattle.script_text.specs.Sound.{IsSound, IsSoundLine};
 ghost use Rattle.script_text.specs.Tasks.{task};
 ghost use Rattle.script_text.specs.declared.command.Command.TheVariants.{Demo, Export};
-ghost use Rattle.intake_commands.specs.Demo.{demo_price};
+ghost use Rattle.search_commands.specs.Demo.{demo_price};
 ghost use Rattle.shell_commands.specs.Tasks.{BrokenTask, command_work, order_left, order_price, order_work, order_writes, SettledTask, tasks, writes_early};
 ghost use Rattle.shell_commands.specs.Watching.{ViewsDone, touches};
 ghost use Rattle.shell_state.specs.Carrying.{StillCarry};
@@ -33,8 +33,8 @@ use view_commands::Window;
 /// A line of a script: the command that it says, or its first fault.
 pub type Order = Result<Command, ScriptFault>;
 
-/// Does what a line of a user's script says, and writes its text, and keeps the views of his own slots right. Of a line without a body nothing
-/// of `body` is read.
+/// Does what a line of a user's script says, and writes its text. The views of the user's own slots stay right. Nothing
+/// of `body` is read for a line without a body.
 #[tactic(auto, using(shell_state::proofs::Causing::unsaid_without))]
 pub fn serve<F: Files, B: Source, K: Sink>(
     alloc: Global,
@@ -52,12 +52,12 @@ pub fn serve<F: Files, B: Source, K: Sink>(
     // Its edit, its mark or its streak is within its bounds, as that of a line that was read.
     requires order { IsSoundLine order.now }
 
-    // Where the files and the body are told, and his views are right, the machine stands for the state after the task and its text is written,
-    // or a front part of it.
+    // If the files and the body are told, and the user's views are right, the machine stands for the state after the
+    // task and its text is written, or a front part of it.
     ensures serves { (s : State) (text : List ℕ) → Stands machine.old (F.seen files.old) s → B.left body.old ≡ Some text → AreRight (λ b. rows b) window s views.old → Serves (tasks window) (Stands machine.new (F.seen files.new)) (BrokenTask window) s (task order.now text) (K.taken out.old) (K.taken out.new) result }
 
-    // Then they are right beside it, and were told no more changes than rows differ. Views of slots that show nothing are as before, and
-    // whatever is told, so are those of slots that are not his own.
+    // Then they are right beside it, and were told no more changes than rows differ. Views of slots that show nothing
+    // are as before, and whatever is told, so are those of slots that are not the user's own.
     ensures views { (s : State) (text : List ℕ) → Stands machine.old (F.seen files.old) s → B.left body.old ≡ Some text → AreRight (λ b. rows b) window s views.old → OnOk result (ViewsDone (λ b. rows b) (λ b. told b) window s (task order.now text) views.old views.new) }
     ensures left { (s : State) (text : List ℕ) → Stands machine.old (F.seen files.old) s → B.left body.old ≡ Some text → AreRight (λ b. rows b) window s views.old → AreLeft (touches window s order.now) views.old views.new }
     ensures others { AreLeft (is_own window) views.old views.new }
@@ -67,13 +67,13 @@ pub fn serve<F: Files, B: Source, K: Sink>(
     // Of an export that is broken off, the games before that one are written whole.
     ensures whole { (s : State) → Stands machine.old (F.seen files.old) s → order.now ≡ Ok Export → IfErr result (λ e. ExportCut s.seat.filter s.shared.base.games e (K.taken out.old) (K.taken out.new)) }
 
-    // Where it is broken off the files carry what they carried, or perhaps what `save` saves or `compact` leaves.
+    // If it is broken off, the files carry what they carried, or perhaps what `save` saves or `compact` leaves.
     ensures carries { (s : State) → Stands machine.old (F.seen files.old) s → IfErr result (λ _. StillCarry (F.seen files.new) s (order_left order.now)) }
 
-    // Where the files fail nothing of its text was written, unless it writes while it works.
+    // If the files fail, nothing of its text was written, unless it writes while it works.
     ensures unsaid { writes_early order.now ≡ false → IfErr result (λ e. Unsaid e (K.taken out.old) (K.taken out.new)) }
 
-    // Where it is one that leaves a base in their place, nothing of its text was written before they carry that.
+    // If it is one that leaves a base in their place, nothing of its text was written before they carry that.
     ensures settled { (s : State) (text : List ℕ) → Stands machine.old (F.seen files.old) s → B.left body.old ≡ Some text → IfErr result (λ _. SettledTask (F.seen files.new) window s (task order.now text) (K.taken out.old) (K.taken out.new)) }
 
     // Whatever the files tell, they change by a line alone that may change them, and no base is chosen.

@@ -1,5 +1,5 @@
--- What stands around the desk of a session: what the files tell, and the views of the slots, at its beginning and now, with how many changes
--- each was told since then at most. This project's own.
+-- What stands around the desk of a session (this project's own): what the files tell, and the views of the slots, at
+-- its beginning and now. Beside them stands how many changes each view was told since then at most.
 use Rattle.std.specs.Prelude.{◌≡◌, ◌≤◌, ◌+◌, ℕ, ⊤, false, if◌then◌else◌, List, [], ◌∷◌, Option, None, is_some, map, option_map}
 use Rattle.std.specs.List.{range_with_len}
 use Rattle.std.specs.Option.{option_map_or}
@@ -25,7 +25,7 @@ Views = List (Option Meaning)
 abbrev pub meanings : {B : Type 0} → (B → List Row) → (B → ℕ) → List (Option B) → Views
 meanings rows told views = map (option_map (λ view. record { rows = rows view; told = told view })) views
 
--- The slots over some views: one is idle where a view stands, and empty else.
+-- The slots over some views: one is idle if a view stands, and empty else.
 abbrev pub slots_by : Views → List Slot
 slots_by views = map (λ k. if is_some (in_slot views k) then idle else empty) (range_with_len 0 8)
 
@@ -50,7 +50,7 @@ pub record AreBeside (around : Around) (d : Desk) : Type 0 where
   pub idle : (k : ℕ) → slot_at d.slots k ≡ idle → in_slot around.now k ≡ in_slot around.first k
   pub told : (k : ℕ) → told_by (in_slot around.now k) ≤ told_by (in_slot around.first k) + around.most k
 
--- What a line that is broken off leaves in a slot that it does not watch: no view where it was empty, and where it was idle that of the beginning.
+-- What a line that is broken off leaves in a slot that it does not watch: no view if it was empty, and if it was idle that of the beginning.
 abbrev pub IsLeftIn : Slot → Option Meaning → Option Meaning → Type 0
 IsLeftIn empty first now = now ≡ None
 IsLeftIn idle first now = now ≡ first

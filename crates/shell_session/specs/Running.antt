@@ -68,9 +68,9 @@ Interrupts InputTooLong = ⊤
 Interrupts Memory = ⊤
 Interrupts _ = ⊥
 
--- What each part of the run keeps to, which ended with this status or with none: without one the machine is sound; where its lines may not
--- change the files, none is changed; no base is chosen; no count of faults fell; the status ends a run, and has its cause, and tells of a
--- script that is too long only where more than the limit was read.
+-- What each part of the run keeps to, which ended with this status or with none. Without one the machine is sound. No
+-- file is changed if its lines may change none. No base is chosen, and no count of faults fell. The status ends a run,
+-- and has its cause. It tells of a script that is too long only if more than the limit was read.
 pub record Kept (writes : Bool) (held' : DeskHolding) (seen seen' : Seen) (old new : Counts) (budget budget' : ℕ) (ended : Option Status) : Type 0 where
   pub sound : MatchOption ended (DeskSound held' seen') (λ status. ⊤)
   pub unchanged : writes ≡ false → seen' ≡ seen
@@ -109,13 +109,13 @@ pub record Stops (status : Status) (around' : Around) (d : Desk) (left : List Ta
   pub stopped : Stopped desks (Breaks status around' t') d left t t'
   pub in_line : InLine status
 
--- A reader goes on with lines of the same kind, where no less was taken, and each byte that was read is taken or unread.
+-- A reader goes on with lines of the same kind, if no less was taken, and each byte that was read is taken or unread.
 pub record GoneOn (old : Reader) (budget : ℕ) (new : Reader) (budget' : ℕ) : Type 0 where
   pub tagged : new.tagged ≡ old.tagged
   pub sum : budget' + (new.used + length new.unread) ≡ budget + (old.used + length old.unread)
   pub later : old.used ≤ new.used
 
--- The reader behind a body that a line ended; none where the input did.
+-- The reader behind a body that a line ended; none if the input did.
 abbrev pub behind_at : At → Reader → Option Reader
 behind_at (Behind line) reader = Some reader
 behind_at _ reader = None
@@ -155,12 +155,12 @@ pub record Finished (line : Line) (d : Desk) (ahead : List ℕ) (used : ℕ) (he
   pub no_further : length front ≤ size + piece_len
   pub asks : a' ≤ a + price_all d lasts
 
--- A body was read, and the reader is given back where a line ended it; else the input did.
+-- A body was read, and the reader is given back if a line ended it; else the input did.
 abbrev pub BodyDone : Line → Desk → List ℕ → ℕ → DeskHolding → Around → Option Reader → Option (List ℕ) → Option (List ℕ) → Option (List ℕ) → ℕ → ℕ → Type 0
 BodyDone line d ahead used held' around' (Some reader') l' t t' a a' = WentOn line d ahead used held' around' reader' l' t t' a a'
 BodyDone line d ahead used held' around' None l' t t' a a' = WentOut line d ahead used held' around' l' t t' a a'
 
--- A line is done, and the reader is given back where the script goes on.
+-- A line is done, and the reader is given back if the script goes on.
 abbrev pub LineDone : Line → Desk → List ℕ → ℕ → DeskHolding → Around → Option Reader → Option (List ℕ) → Option (List ℕ) → Option (List ℕ) → ℕ → ℕ → Type 0
 LineDone line d ahead used held' around' (Some reader') l' t t' a a' = WentOn line d ahead used held' around' reader' l' t t' a a'
 LineDone line d ahead used held' around' None l' t t' a a' = Finished line d ahead used held' around' l' t t' a a'
@@ -189,7 +189,7 @@ pub record LastDid (line : Line) (d : Desk) (held' : DeskHolding) (around' : Aro
   pub did : Done (Lives held' (told_more around' (told_all d (last_tasks d line)))) (after_all desks d (last_tasks d line)) (run desks d (last_tasks d line)) t t'
   pub left : l' ≡ Some []
 
--- No task is done where its body cannot be read to its end.
+-- No task is done if its body cannot be read to its end.
 abbrev pub LastDone : Status → Option (List ℕ) → List Tagged → Type 0
 LastDone ReadFault later done = (later ≡ Some []) × (done ≡ [])
 LastDone InputTooLong later done = ⊥

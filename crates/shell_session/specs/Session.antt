@@ -36,7 +36,7 @@ pub record Given : Type 0 where
 abbrev pub given : List (List ℕ) → List ℕ → List ℕ → List ℕ → List ℕ → Views → Given
 given words index names games script views = record { words = words; index = index; names = names; games = games; script = script; views = views }
 
--- What an input shows: the bytes left where it tells them, its budget, and its faults.
+-- What an input shows: the bytes left if it tells them, its budget, and its faults.
 pub record Inlet : Type 0 where
   pub left : Option (List ℕ)
   pub budget : ℕ
@@ -54,7 +54,7 @@ pub record Opened (given : Given) : Type 0 where
   pub mends : Mended given.index base.games mended
   pub faultless : (fault : BaseFault) → Refuses wanted.create wanted.strict given.index given.names given.games fault → ⊥
 
--- The desk in which the script begins: of four clients where the words ask for it, and else of one.
+-- The desk in which the script begins: of four clients if the words ask for it, and else of one.
 abbrev pub begun : (given : Given) → Opened given → Desk
 begun given opened = desk_begin opened.wanted.desk (is_created opened.wanted.create given.index given.names given.games) (slots_by given.views) opened.base
 
@@ -69,10 +69,11 @@ opening_text games mended = codes "base " ++ decimal games ++ codes " games " ++
 
 -- ---- the run of the script
 
--- The whole script was run: its text is written, and the input was read to its end or to the line of the `quit` by which its last client
--- ends, and at most so many bytes further. The files carry the base that the last `save` or `compact` left, or the opened one, and mean it
--- where no edit came after. Each view of a slot that shows a tree has the rows of the games that are in then for the slot's owner, and one of
--- a slot that was never watched is as before; none was told more changes than the tasks tell it.
+-- The whole script was run. Its text is written. The input was read to its end or to the line of the `quit` by which
+-- its last client ends, and at most so many bytes further. The files carry the base that the last `save` or `compact`
+-- left, or the opened one, and mean it if no edit came after. Each view of a slot that shows a tree has the rows of the
+-- games that are in then for the slot's owner. One of a slot that was never watched is as before. None was told more
+-- changes than the tasks tell it.
 pub record RanAll (d : Desk) (script : List ℕ) (told : Option (List ℕ)) (told' : Option (List ℕ)) (later : Option (List ℕ)) (around' : Around) : Type 0 where
   pub written : told' ≡ adds told (run desks d (script_of d.clients.tagged script))
   pub within : script_len d.clients.tagged script ≤ longest_script
@@ -85,17 +86,18 @@ pub record RanAll (d : Desk) (script : List ℕ) (told : Option (List ℕ)) (tol
       AreBeside (record around' { most = λ k. around'.most k + summed (λ d next. line_told d next k) d (script_of d.clients.tagged script) })
       (after_all desks d (script_of d.clients.tagged script))
 
--- What is known of the line that a status breaks off: the files fail only at one that uses them, of which nothing was written then, unless it is
--- one that writes while it works; and no told record was changed.
+-- What is known of the line that a status breaks off. The files fail only at a line that uses them. Nothing of it was
+-- written then, unless it writes while it works. No told record was changed.
 abbrev pub BrokenBy : Status → Desk → Tagged → Option (List ℕ) → Option (List ℕ) → Type 0
 BrokenBy FilesFault d next told told' =
     IsTrue (order_work all_slots (effective d.clients next.client next.task.order) next.task.body).files × (writes_early next.task.order ≡ false → told' ≡ told)
 BrokenBy (Changed game kept found) d next told told' = ⊥
 BrokenBy _ d next told told' = ⊤
 
--- The same, with what remains then. The files carry what they carried, or what the line leaves in their place; of one that leaves a base
--- there nothing was written behind what was told, or they carry what the desk behind it says. The slots that the line does not watch
--- are empty where they were, and the views of idle ones are as they were at the beginning.
+-- The same, with what remains then. The files carry what they carried, or what the line leaves in their place. Of a
+-- line that leaves a base there nothing was written behind what was told, or the files carry what the desk behind it
+-- says. The slots that the line does not watch are empty if they were, and the views of idle ones are as they were at
+-- the beginning.
 pub record Breaks (status : Status) (around' : Around) (told' : Option (List ℕ)) (d : Desk) (next : Tagged) (told : Option (List ℕ)) : Type 0 where
   pub broken : BrokenBy status d next told told'
   pub carries : StillCarry around'.seen (seen_by d 0) (line_left d (said next.client next.task.order))
@@ -103,8 +105,8 @@ pub record Breaks (status : Status) (around' : Around) (told' : Option (List ℕ
       IfSome (line_left d (said next.client next.task.order)) (λ left. Settled around'.seen (seen_by (desks.after d next) 0) told told')
   pub views : AreLeftBy around' d (said next.client next.task.order)
 
--- The lines that are done at a fault of the input are those that were read with their line feed; at a script that is too long those that end
--- within the limit. Their clients are four at a desk.
+-- The lines that are done. At a fault of the input they are those that were read with their line feed, and at a script
+-- that is too long those that end within the limit. Their clients are four at a desk.
 abbrev pub LinesDone : Status → Bool → List ℕ → Option (List ℕ) → List Tagged → Type 0
 LinesDone ReadFault desk script later done = (front : List ℕ) × (Some script ≡ before front later) × (done ≡ whole_lines desk front)
 LinesDone InputTooLong desk script later done = (longest_script < script_len desk script) × (done ≡ whole_lines desk (take longest_script script))
@@ -158,7 +160,7 @@ Answers given told told' input input' around' Memory =
     ⊎ (OpeningCut given told told' input input' around' ⊎ ScriptCut Memory given told told' input'.left around')
 Answers given told told' input input' around' status = ScriptCut status given told told' input'.left around'
 
--- The status where no device has a fault and memory does not run out.
+-- The status if no device has a fault and memory does not run out.
 abbrev pub Due : Given → Status → Type 0
 Due given Done = (opened : Opened given) × (script_len opened.wanted.desk given.script ≤ longest_script)
 Due given InputTooLong = (opened : Opened given) × (longest_script < script_len opened.wanted.desk given.script)
@@ -168,7 +170,7 @@ Due given _ = ⊥
 
 -- ---- bytes asked of the games file
 
--- A session asks at most the records of all games, to open the base, and where it is open what the lines of its script ask.
+-- A session asks at most the records of all games, to open the base, and if it is open what the lines of its script ask.
 abbrev pub Asks : Given → ℕ → ℕ → Type 0
 Asks given old new =
     (new ≤ old + open_cost given.index)
@@ -178,7 +180,8 @@ Asks given old new =
 
 -- ---- causes, for every files, input and output
 
--- A device's status comes only where that device counted a fault, and a changed record's only with another signature than the kept one.
+-- If a status is that of a device, the device counted a fault; if it is that of a changed record, the record has
+-- another signature than the kept one.
 abbrev pub WhyStatus : Status → Counts → Counts → Type 0
 WhyStatus ReadFault old new = Rose old.input new.input
 WhyStatus WriteFault old new = Rose old.output new.output
@@ -190,18 +193,18 @@ WhyStatus _ old new = ⊤
 abbrev pub ChoosesBase : List (List ℕ) → List Choice → List Choice → Type 0
 ChoosesBase words old new = IsSomeAnd (words_read words) (λ wanted. new ≡ old ++ choice wanted.name wanted.create ∷ [])
 
--- Which bases were chosen: none where the words name none, and none or the one where memory ran out.
+-- Which bases were chosen: none if the words name none, and none or the one if memory ran out.
 abbrev pub Chooses : Status → List (List ℕ) → List Choice → List Choice → Type 0
 Chooses Usage words old new = new ≡ old
 Chooses Memory words old new = (new ≡ old) ⊎ ChoosesBase words old new
 Chooses _ words old new = ChoosesBase words old new
 
--- What stays as it is where the words or the files refuse: what was written, and what the input shows.
+-- What stays as it is if the words or the files refuse: what was written, and what the input shows.
 abbrev pub StaysIfRefused : {A : Type 0} → Status → A → A → Type 0
 StaysIfRefused Usage old new = new ≡ old
 StaysIfRefused (BadBase fault) old new = new ≡ old
 StaysIfRefused _ old new = ⊤
 
--- Nothing was asked of the input then; where the script is too long, more than the limit was read.
+-- Nothing was asked of the input then; if the script is too long, more than the limit was read.
 abbrev pub Reads : Status → Inlet → Inlet → Type 0
 Reads status old new = StaysIfRefused status old new × (status ≡ InputTooLong → new.budget + longest_script < old.budget)

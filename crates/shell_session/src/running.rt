@@ -48,7 +48,7 @@ pub(crate) fn run_script<F: Files, S: Source, K: Sink>(
     ensures all { OnOk result ((d : PlainDesk) (first : Views) (most : ℕ → ℕ) (script : List ℕ) → Lives desk.old (around (F.seen files.old) first most (meanings (λ b. rows b) (λ b. told b) views.old)) d → S.left input.old ≡ Some script → RanAll d script (K.taken out.old) (K.taken out.new) (S.left input.new) (around (F.seen files.new) first most (meanings (λ b. rows b) (λ b. told b) views.new))) }
     ensures part { IfErr result (λ status. (d : PlainDesk) (first : Views) (most : ℕ → ℕ) (script : List ℕ) → Lives desk.old (around (F.seen files.old) first most (meanings (λ b. rows b) (λ b. told b) views.old)) d → S.left input.old ≡ Some script → RanPart status d script (K.taken out.old) (K.taken out.new) (S.left input.new) (around (F.seen files.new) first most (meanings (λ b. rows b) (λ b. told b) views.new))) }
     ensures asks { (d : PlainDesk) (first : Views) (most : ℕ → ℕ) (script : List ℕ) → Lives desk.old (around (F.seen files.old) first most (meanings (λ b. rows b) (λ b. told b) views.old)) d → S.left input.old ≡ Some script → F.asked files.new ≤ F.asked files.old + price_all d (script_of d.clients.tagged script) }
-    // Where nothing of the input was taken, no file is changed, whatever it tells.
+    // If nothing of the input was taken, no file is changed, whatever it tells.
     ensures untaken { S.budget input.new ≡ S.budget input.old → F.seen files.new ≡ F.seen files.old }
     ensures none_lost { NoneLost (K.taken out.old) (K.taken out.new) }
     ensures number { length views.new ≡ length views.old }
@@ -74,7 +74,7 @@ pub(crate) fn run_script<F: Files, S: Source, K: Sink>(
     }
 }
 
-// Runs a line with its body, and gives the reader back where the script goes on behind it.
+// Runs a line with its body, and gives the reader back if the script goes on behind it.
 fn run_task<F: Files, S: Source, K: Sink>(
     alloc: Global,
     desk: &mut Desk,
@@ -180,7 +180,7 @@ fn run_last_task<F: Files, S: Source, K: Sink>(
     run_end(alloc, desk, views, files, out)
 }
 
-// Runs a command that has a body, which ends at the line of this word, and gives the reader back where such a line ended it; else the
+// Runs a command that has a body, which ends at the line of this word, and gives the reader back if such a line ended it; else the
 // input did.
 fn run_body<F: Files, S: Source, K: Sink>(
     alloc: Global,
@@ -220,7 +220,7 @@ fn run_body<F: Files, S: Source, K: Sink>(
     Ok(reader_behind(place))
 }
 
-// The reader behind a body that a line ended; none where the input did.
+// The reader behind a body that a line ended; none if the input did.
 fn reader_behind(place: Place) -> Option<LineReader>
     ensures behind { result ≡ behind_at place.at place.reader }
 {
@@ -272,7 +272,7 @@ fn broken(place: &Place, halt: Halt) -> Status
     }
 }
 
-// Runs the last line of a script, which no line feed ends, and then its end where it is not `quit`.
+// Runs the last line of a script, which no line feed ends, and then its end unless it is `quit`.
 fn run_last<F: Files, K: Sink>(
     alloc: Global,
     desk: &mut Desk,

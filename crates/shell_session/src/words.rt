@@ -24,7 +24,7 @@ struct Said<'a> {
     desk: bool,
 }
 
-/// What the words ask for, where they are one base name and the options `--create`, `--strict` and `--desk`, each at most once.
+/// What the words ask for, if they are one base name and the options `--create`, `--strict` and `--desk`, each at most once.
 #[tactic(auto, unfolding(crate::specs::Words::words_read))]
 pub(crate) fn words_read(words: &[String]) -> Option<Wanted<'_>>
     ensures read { option_map (λ w. record { name = w.name.now; create = w.create; strict = w.strict; desk = w.desk }) result ≡ words_read (map string_bytes words.now) }

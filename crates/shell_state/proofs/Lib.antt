@@ -11,3 +11,4 @@ pub mod Beginning
 pub mod Served
 pub mod TableLaws
 pub mod PageLaws
+pub mod ReadHitLaws

@@ -14,6 +14,10 @@ use Rattle.game_tree.specs.declared.head.Head.{Head}
 use Rattle.index_entry.specs.declared.entry.Entry.{Entry}
 use Rattle.name_base.specs.NameLists.{NameLists}
 use Rattle.pos_index.specs.Hits.{Index, Place, rows_told}
+use Rattle.game_search.specs.Questions.{cost_of}
+use Rattle.pos_search.specs.Searching.{are_read, is_read}
+use Rattle.sig_index.specs.Costs.{price_by}
+use Rattle.sig_index.specs.declared.pos_query.PosQuery.{PosQuery}
 use Rattle.sig_index.specs.Signature.{sig_of}
 use Rattle.sig_index.specs.declared.signature.Sig.{Sig}
 use Rattle.base_files.specs.declared.extent.Extent.{Extent}
@@ -23,6 +27,7 @@ use Rattle.shell_state.specs.Passing.{len_if, filtered_len, len_if_in, len_in, s
 use Rattle.shell_state.specs.Stands.{Holding, Stands, index_of, look_at, looks_at_all, looks_in}
 use Rattle.shell_state.specs.State.{State}
 use Rattle.shell_state.specs.Work.{Look, indexed_places, look_of, looks_of}
+use Rattle.shell_state.specs.Meeting.{position_len}
 
 -- ---- what is looked at of what is held, and in the state
 
@@ -131,3 +136,22 @@ searched_looks test op (ply ∷ plies) names [] (e ∷ entries) =
     ap (λ (n : ℕ). len_if (looks_at op ply && test (sig_in e)) e.len + n) (searched_looks test op plies names [] entries)
 searched_looks test op (ply ∷ plies) names (row ∷ rows) (e ∷ entries) =
     ap (λ (n : ℕ). len_if (looks_at op ply && test (sig_in e)) e.len + n) (searched_looks test op plies names rows entries)
+
+-- ---- what a search for a position asks is what its command costs
+
+search-price : (op : Op) (query : PosQuery) (plies : List (Option ℕ)) (names : NameLists) (rows : List (List Place)) (entries : List Entry)
+    → price_by (cost_of op) (are_read query rows (map sig_in entries)) (map extent_of entries) plies ≡ position_len op query (looks_at_all names rows entries) plies
+search-price op query [] names [] [] = refl
+search-price op query [] names (row ∷ rows) [] = refl
+search-price op query [] names [] (e ∷ entries) = refl
+search-price op query [] names (row ∷ rows) (e ∷ entries) = refl
+search-price op query (old ∷ plies) names [] [] = refl
+search-price op query (old ∷ plies) names (row ∷ rows) [] = refl
+search-price op query (old ∷ plies) names [] (e ∷ entries) =
+    ap (λ (n : ℕ). len_if (looks_at op old && is_read query [] (sig_in e)) e.len + n) (search-price op query plies names [] entries)
+search-price op query (old ∷ plies) names (row ∷ rows) (e ∷ entries) =
+    ap (λ (n : ℕ). len_if (looks_at op old && is_read query row (sig_in e)) e.len + n) (search-price op query plies names rows entries)
+
+pub price_is : (op : Op) (query : PosQuery) (plies : List (Option ℕ)) (holding : Holding)
+    → price_by (cost_of op) (are_read query (rows_told holding.tables.index) (map sig_in holding.kept.entries)) (map extent_of holding.kept.entries) plies ≡ position_len op query (looks_in holding) plies
+price_is op query plies holding = search-price op query plies holding.kept.names (rows_told holding.tables.index) holding.kept.entries

@@ -25,8 +25,8 @@ CarryIt seen base = (c : Contents seen) × Carries c.index c.names c.games base
 abbrev pub IsFaultless : List ℕ → List ℕ → List ℕ → Type 0
 IsFaultless index names games = (strict : Bool) (fault : BaseFault) → FirstFault strict index names games fault → ⊥
 
--- The files beside a base that is open: they carry this base, whose names have the same ids in what is kept, and where nothing is unsaved they
--- mean it, without a fault where it was written as a whole.
+-- The files beside a base that is open. They carry this base, whose names have the same ids in what is kept. If nothing
+-- is unsaved they mean it, without a fault if it was written as a whole.
 pub record Beside (kept : Kept) (seen : Seen) (unsaved : Bool) (carried : Carried) : Type 0 where
   pub contents : Contents seen
   pub carries : Carries contents.index contents.names contents.games carried.base
@@ -38,13 +38,15 @@ pub record Beside (kept : Kept) (seen : Seen) (unsaved : Bool) (carried : Carrie
 abbrev pub AreEmpty : Seen → Type 0
 AreEmpty seen = (seen.index ≡ Some []) × (seen.names ≡ Some [])
 
--- Where there is a base that they carry; those of a base that was created and neither saved nor compacted are empty.
+-- The files beside a base that is open: if they carry a base, they stand beside it. Those of a base that was created
+-- and neither saved nor compacted are empty.
 abbrev pub AreBeside : Kept → Seen → Bool → Option Carried → Type 0
 AreBeside kept seen unsaved (Some carried) = Beside kept seen unsaved carried
 AreBeside kept seen unsaved None = AreEmpty seen
 
--- The files after the commands of a script: they carry the base that was opened, or saved or compacted last, and mean it where no edit came
--- after; one that was saved or compacted opens again then without a fault, however strict the opening is. Those of a base that was created and neither saved nor compacted are empty.
+-- The files after the commands of a script. They carry the base that was opened, or saved or compacted last, and mean
+-- it if no edit came after. One that was saved or compacted opens again then without a fault, however strict the
+-- opening is. Those of a base that was created and neither saved nor compacted are empty.
 abbrev pub AreLeft : Seen → Option Carried → Bool → Type 0
 AreLeft seen (Some carried) unsaved =
     CarryIt seen carried.base
@@ -52,8 +54,8 @@ AreLeft seen (Some carried) unsaved =
     × (unsaved ≡ false → carried.sound ≡ true → (c : Contents seen) × IsFaultless c.index c.names c.games))
 AreLeft seen None unsaved = AreEmpty seen
 
--- What the files carry where a command was broken off: what they carried before it, or perhaps what it leaves of a base that replaces them.
--- Nothing is said where the base was created and neither saved nor compacted.
+-- What the files carry if a command was broken off: what they carried before it, or perhaps what it leaves of a base that replaces them.
+-- Nothing is said if the base was created and neither saved nor compacted.
 abbrev pub StillCarry : Seen → State → Option (Base → Base) → Type 0
 StillCarry seen s left =
     IfSome s.shared.carried (λ (carried : Carried). CarryIt seen carried.base ⊎ IsSomeAnd left (λ leaves. CarryIt seen (leaves s.shared.base)))

@@ -71,7 +71,7 @@ refused_line error = result_map_both refusal_line (λ halt. halt) (refused_edit 
 abbrev pub EndsAs : Result (List ℕ) Halt → Halt → Type 0
 EndsAs ends e = (e ≡ halt.Device stop.Memory) ⊎ (ends ≡ Err e)
 
--- Nothing was written where the files failed.
+-- Nothing was written if the files failed.
 abbrev pub Unsaid : Halt → Option (List ℕ) → Option (List ℕ) → Type 0
 Unsaid e told told' = e ≡ halt.Device stop.Files → told' ≡ told
 

@@ -1,4 +1,4 @@
--- The hits of a game that comes in. Only contracts of functions that no reader of a script needs cite this.
+-- The hits of a game that comes in (this project's own). Only contracts of functions that no reader of a script needs cite this.
 use Rattle.std.specs.Prelude.{◌≡◌, ℕ, List, Option, option_and_then, option_map}
 use Rattle.cell_core.specs.Packed.{Packed}
 use Rattle.cell_core.specs.declared.step.Move.{Move}

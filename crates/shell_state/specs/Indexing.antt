@@ -1,4 +1,4 @@
--- What edits make of a position index. Only contracts of functions that no reader of a script needs cite this.
+-- What edits make of a position index (this project's own). Only contracts of functions that no reader of a script needs cite this.
 use Rattle.std.specs.Prelude.{ℕ, [], ◌∷◌, ◌++◌, slice_set}
 use Rattle.game_tree.specs.Game.{GameTree}
 use Rattle.pos_index.specs.Hits.{Index, places_of}

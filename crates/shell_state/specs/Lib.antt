@@ -9,4 +9,5 @@ pub mod Carrying
 pub mod Stands
 pub mod Indexing
 pub mod Hits
+pub mod Meeting
 pub mod Adding

@@ -40,7 +40,7 @@ refusal len full = if nat_lt longest len then Some TooLong else option_map Full 
 abbrev pub why_not : Base → ℕ → Head → GameTree → Option Refusal
 why_not base games head game = refusal (length (written_record head.tags game)) (first_full games (names_with head base.names) (end_with head game base.end))
 
--- Why it is not added; and the error line where it does not take the place of another one.
+-- Why a game is not added, and the error line of one that cannot take the place of another one.
 abbrev pub not_added : Shared → Head → GameTree → Option Refusal
 not_added shared head game =
     if index_is_full shared.index (length shared.base.games + 1) then Some FullIndex else why_not shared.base (length shared.base.games + 1) head game

@@ -30,7 +30,7 @@ exactly board side = record { mode = Exact; board = board; side = side; vars = f
 abbrev pub exactly_on : Packed → PosQuery
 exactly_on packed = exactly (men_of packed.cells) packed.side
 
--- What a tree counts of a game: its first match with the move after it, where its main line meets the position.
+-- What a tree counts of a game: its first match with the move after it, if its main line meets the position.
 abbrev pub hit_of_game : PosQuery → Held → Option GameHit
 hit_of_game query held = option_map (λ (found : ℕ × Option Move). hit_of found.1 query.side held.head) (position.hit_of query held.game)
 

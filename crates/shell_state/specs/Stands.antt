@@ -40,7 +40,7 @@ pub record Holding : Type 0 where
 abbrev pub index_of : List GameTree → ℕ → Index
 index_of games depth = record { depth = depth; rows = map (row_of depth) (map Some games) }
 
--- Those where there is no index, and no slot shows a tree.
+-- The tables without an index, when no slot shows a tree.
 abbrev pub no_tables : Tables
 no_tables = record { index = None; hits = replicate 8 None }
 
@@ -52,7 +52,7 @@ tables_by depth slots games = record { index = option_map (index_of (map (λ hel
 abbrev pub depth_of : Option Index → Option ℕ
 depth_of index = option_map (λ (x : Index). x.depth) index
 
--- The machine stands for this state, where the files are told: for none where they are not.
+-- The machine stands for this state, and the files are told.
 pub record Stands (holding : Holding) (seen : Seen) (s : State) : Type 0 where
   pub games : List ℕ
   pub told : seen.games ≡ Some games
@@ -129,7 +129,7 @@ AsksBy (by_state price) holding old new = ⊤
 abbrev pub Asks : Holding → Work → ℕ → ℕ → Type 0
 Asks holding work old new = AsksBy work.price holding old new
 
--- And no fewer, of one whose price is what it asks where it is done; a counter of bytes stands still at its last value.
+-- And no fewer, of one whose price is what it asks if it is done; a counter of bytes stands still at its last value.
 abbrev pub AsksAllBy : Price → Holding → ℕ → ℕ → Type 0
 AsksAllBy (by_looks price) holding old new = raised old (price (looks_in holding) holding.seat.filter) ≤ new
 AsksAllBy (by_state price) holding old new = ⊤
@@ -148,8 +148,8 @@ pub record IsOpen (kept : Kept) (seen : Seen) (created : Bool) (base : Base) : T
 abbrev pub ShowNone : List Slot → Type 0
 ShowNone slots = (games : List Held) → tables_of games slots ≡ replicate 8 None
 
--- A machine begins with what an open base keeps: it is sound where the base ends with the games file, and where a base was opened or created
--- it stands for the state in which a script begins.
+-- A machine begins with what an open base keeps. It is sound if the base ends with the games file. If a base was opened
+-- or created, it stands for the state in which a script begins.
 pub record Begins (kept : Kept) (holding : Holding) : Type 0 where
   pub sound : (seen : Seen) → IsEnd kept.end seen → Sound holding seen
   pub stands : (seen : Seen) (created : Bool) (slots : List Slot) (base : Base) → ShowNone slots → IsOpen kept seen created base

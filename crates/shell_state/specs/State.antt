@@ -13,8 +13,9 @@ pub record Carried : Type 0 where
   pub base : Base
   pub sound : Bool
 
--- What all users of a base share: the base, the one that the files carry (the one that was opened, or saved or compacted last; none where it was
--- created and neither came), whether changes are unsaved, and the depth of the position index, if there is one.
+-- What all users of a base share: the base, the one that the files carry, whether changes are unsaved, and the depth of
+-- the position index, if there is one. The files carry the base that was opened, or saved or compacted last. They carry
+-- none if it was created and neither came.
 pub record Shared : Type 0 where
   pub base : Base
   pub carried : Option Carried
@@ -25,7 +26,7 @@ pub record Shared : Type 0 where
 abbrev pub saved_whole : Shared → Base → Shared
 saved_whole shared base = record shared { base = base; carried = Some (record { base = base; sound = true }); unsaved = false }
 
--- That, and what one of them has of his own: his seat, and what his slots show.
+-- That, and what one of them has alone: the seat, and what the slots show.
 pub record State : Type 0 where
   pub shared : Shared
   pub seat : Seat
@@ -58,8 +59,8 @@ games_of s = map (λ held. held.game) s.shared.base.games
 abbrev pub with_index : State → Option ℕ → State
 with_index s depth = record s { shared = record s.shared { index = depth } }
 
--- The state in which a script begins over a base that was opened or, in an empty folder, created: every game is in at ply 0, and nothing is
--- kept or unsaved, or indexed. Its slots are these.
+-- The state in which a script begins over a base that was opened or, in an empty folder, created. Every game is in at
+-- ply 0, and nothing is kept or unsaved, or indexed. Its slots are these.
 abbrev pub begin : Bool → List Slot → Base → State
 begin created slots base = record {
   shared = record { base = base; carried = if created then None else Some (record { base = base; sound = false }); unsaved = false; index = None };

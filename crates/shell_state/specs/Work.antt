@@ -19,7 +19,7 @@ pub record Look : Type 0 where
   pub head : Head
   pub places : List Place
 
--- The places that an index to this depth has of a game; there are none where there is no index.
+-- The places that an index to this depth has of a game, and none without an index.
 abbrev pub indexed_places : Option ℕ → GameTree → List Place
 indexed_places None game = []
 indexed_places (Some depth) game = places_of depth game
@@ -40,8 +40,8 @@ abbrev pub price_by : Price → State → ℕ
 price_by (by_looks price) s = price (looks_of s.shared) s.seat.filter
 price_by (by_state price) s = price s
 
--- What a command makes of a state, and the text that it writes; whether it uses the files, may change them, and reads a body; the base that it
--- leaves in their place, if it replaces them; and its price.
+-- What a command makes of a state, and the text that it writes. It also has whether the command uses the files, may
+-- change them, and reads a body. Then come the base that it leaves in their place, if it replaces them, and its price.
 pub record Work : Type 0 where
   pub after : State → State
   pub text : State → List ℕ

@@ -7,7 +7,7 @@ use base_files::{Files, Stop};
 use sig_index::{FetchError, Sig};
 use std::alloc::{AllocError, AllocFailed};
 
-/// How a command ends where a game that is there is not read.
+/// How a command ends if a game that is there is not read.
 pub fn halt_of(error: EditError) -> Halt
     requires there { HasGame error }
     ensures halt { result ≡ halt_of error }

@@ -37,7 +37,7 @@ pub struct Machine {
     pub index: Option<PosIndex>,
     /// The positions whose trees its user watches, with their hits.
     pub slots: Slots,
-    /// What its user has of his own.
+    /// What its user has alone.
     pub seat: Seat,
     /// A record is read into it: as long as the longest one may be.
     pub block: Vec<u8>,
@@ -64,7 +64,7 @@ impl Machine {
         requires room { length block.items ≡ 131072 }
         ensures holds { IfOk result (λ machine. machine ≡ record { kept = base; tables = no_tables; seat = first_seat (length base.entries) }) }
 
-        // Where its base was opened without changes, it stands for the state in which a script begins.
+        // If its base was opened without changes, it stands for the state in which a script begins.
         ensures begins { IfOk result (Begins base) }
     {
         let filter = Filter::new(alloc, base.header().games)?;
@@ -89,7 +89,7 @@ impl Machine {
         let _header = self.base.header();
     }
 
-    /// The game of a number, where there is one.
+    /// The game of a number, if there is one.
     pub fn game_at(&self, number: u64) -> Option<u32>
         ensures at { MatchOption result (length self.now.kept.entries ≤ number) (λ i. (i ≡ number) × (i < length self.now.kept.entries)) }
     {

@@ -14,7 +14,7 @@ use crate::writing::PIECE;
 use base_files::Sink;
 use command_runs::write_from;
 
-/// Writes all that waits, where it fills a page.
+/// Writes all that waits, if it fills a page.
 pub fn write_full<K: Sink>(page: &mut Vec<u8>, out: &mut K) -> Result<(), Halt>
     ensures kept { adds (K.taken out.new) page.new.items ≡ adds (K.taken out.old) page.old.items }
     ensures output { IfErr result IsOutput }

@@ -7,6 +7,7 @@ pub mod HomeLemmas
 pub mod StepLemmas
 pub mod Paying
 pub mod SkippingLemmas
+mod StandLemmas
 pub mod Ranges
 pub mod AllowLemmas
 pub mod PrefixLemmas

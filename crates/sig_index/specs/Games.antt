@@ -60,7 +60,7 @@ extent_in extents i = slice_index_or extents i (record { offset = 0; len = 0 })
 abbrev pub AreWithin : ℕ → List Extent → Type 0
 AreWithin known extents = (i : ℕ) → (extent_in extents i).offset + (extent_in extents i).len ≤ known
 
--- The bytes at an extent, where the games file is told.
+-- The bytes at an extent, if the games file is told.
 abbrev pub record_told : Option (List ℕ) → Extent → Option (List ℕ)
 record_told games extent = part_told games extent.offset extent.len
 
@@ -89,7 +89,7 @@ pub record HasChanged (sigs : List Sig) (extents : List Extent) (told : Option (
   pub is_shown : Shows (take (extent_in extents game).len buffer) found
   pub is_other : found ≡ Some kept → ⊥
 
--- The cause of an error, where the files tell `told` of the games file and their count of faults went from `old` to `new`: a fault was
+-- The cause of an error, if the files tell `told` of the games file and their count of faults went from `old` to `new`: a fault was
 -- counted, or the bytes in `buffer` are a changed record.
 abbrev pub HasFetchCause : FetchError → List Sig → List Extent → Option (List ℕ) → List ℕ → ℕ → ℕ → Type 0
 HasFetchCause Failed sigs extents told buffer old new = Rose old new

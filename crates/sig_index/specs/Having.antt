@@ -8,8 +8,9 @@ use Rattle.sig_index.specs.Coming.{lack, over_lesser, over_pieces}
 abbrev pub start_counts : List ℕ
 start_counts = 1 ∷ 2 ∷ 2 ∷ 2 ∷ 8 ∷ 1 ∷ 2 ∷ 2 ∷ 2 ∷ 8 ∷ []
 
--- One colour's counts can have been at least those of the range in a game from the initial position: the queens, rooks, bishops and
--- knights that are missing there were made of pawns that are more than the least, and there were promotions where any is missing.
+-- One colour's counts can have been at least those of the range in a game from the initial position. The queens, rooks,
+-- bishops and knights that are missing at the start were made of pawns that are more than the least. The game had
+-- promotions if any is missing, and promotions to other men than queens if a rook, bishop or knight is.
 abbrev pub colour_can_have : Sig → MatRange → ℕ → Bool
 colour_can_have sig range queens =
     nat_le (over_pieces (lack range start_counts) queens + slice_index range.lo (queens + 4)) 8

@@ -12,8 +12,9 @@ AreAtMost counts range = (place : ℕ) → place < 10 → slice_index counts pla
 abbrev pub rise : Sig → MatRange → ℕ → ℕ
 rise sig range place = slice_index sig.material place - slice_index range.hi place
 
--- One colour's counts can have been at most those of the range: no more pawns are left than it allows, each rise is one of the other
--- pawns that it allows, promoted, and there were promotions where there is a rise.
+-- One colour's counts can have been at most those of the range. No more pawns are left than it allows, and each rise is
+-- one of the other pawns that it allows, promoted. The game had promotions if there is a rise, and promotions to other
+-- men than queens if the rise is of rooks, bishops or knights.
 abbrev pub colour_can_stand : Sig → MatRange → ℕ → Bool
 colour_can_stand sig range queens =
     nat_le (slice_index sig.material (queens + 4)) (slice_index range.hi (queens + 4))
@@ -24,3 +25,12 @@ colour_can_stand sig range queens =
 -- The counts of a game with this signature can have been at most those of the range at some ply: White's and Black's.
 abbrev pub can_stand : Sig → MatRange → Bool
 can_stand sig range = colour_can_stand sig range 0 && colour_can_stand sig range 5
+
+-- None of one colour's counts is above the greatest that is allowed. Only private functions cite this.
+abbrev pub are_within : List ℕ → List ℕ → ℕ → Bool
+are_within counts most queens =
+    nat_le (slice_index counts queens) (slice_index most queens)
+    && nat_le (slice_index counts (queens + 1)) (slice_index most (queens + 1))
+    && nat_le (slice_index counts (queens + 2)) (slice_index most (queens + 2))
+    && nat_le (slice_index counts (queens + 3)) (slice_index most (queens + 3))
+    && nat_le (slice_index counts (queens + 4)) (slice_index most (queens + 4))

@@ -1,5 +1,5 @@
 //! The signature in the 47 bytes of a game's entry.
-ghost use Rattle.std.specs.Prelude.{◌≡◌, ◌<◌, length, slice_index};
+ghost use Rattle.std.specs.Prelude.{◌≡◌, ◌<◌, ◌*◌, ◌-◌, ◌/◌, ◌%◌, ◌^◌, ℕ, length, slice_index};
 ghost use Rattle.index_entry.specs.Entry.{entry_in};
 ghost use Rattle.sig_index.specs.Signature.{IsSigBounded, sig_in};
 
@@ -7,7 +7,7 @@ use crate::signature::{HomeList, Sig};
 use game_tree::{Date, Outcome, Rating};
 use index_entry::{
     ENTRY_LEN, Entry, comments_in, has_own_start_in, has_promotion_in, has_underpromotion_in,
-    home_count_in, home_in, home_value_in, material_in, nags_in, pack, plies_in, variations_in,
+    home_count_in, home_in, home_word_in, material_in, nags_in, pack, plies_in, variations_in,
 };
 use std::marker::Model;
 
@@ -72,12 +72,11 @@ impl<'a> Brief<'a> {
         home_count_in(self.entry)
     }
 
-    /// The home value of the pawn that was the `i`th to leave, counted from 0.
-    pub fn home_value(&self, i: usize) -> u8
-        requires place { i < 16 }
-        ensures value { result ≡ slice_index self.now.home.values i }
+    /// The home values as one word, the first in its highest four bits. What stands behind them may be anything.
+    pub fn home_word(&self) -> u64
+        ensures values { (i : ℕ) → i < 16 → i < self.now.home.count → result / 2 ^ (60 - 4 * i) % 16 ≡ slice_index self.now.home.values i }
     {
-        home_value_in(self.entry, i)
+        home_word_in(self.entry)
     }
 
     /// The plies of the main line; more than 1,023 count as 1,023.

@@ -19,7 +19,7 @@ pub fn can_come(r: &MatRange, counts: &[u8; 10]) -> bool
     colour_can_come(r, counts, 0) && colour_can_come(r, counts, 5)
 }
 
-/// A law: where `can_come` is false for a range, the counts of a legal game are at least its least at no later ply.
+/// A law: if `can_come` is false for a range, the counts of a legal game are at least its least at no later ply.
 pub fn missing_men_are_promoted()
     ensures sound { (game : GameTree) (range : Range) (i j : ℕ) → Sound game.start → IsLegalGame game → i ≤ j → AreAtLeast (counts_of (position_at game j).board) range → can_come range (counts_of (position_at game i).board) ≡ true }
 {}

@@ -21,8 +21,8 @@ pub enum FetchError {
     /// The files failed.
     #[error("the files of the base failed")]
     Failed,
-    /// The bytes of the game's record are no longer those of a game with the signature that is kept: they are no record, or one of a
-    /// game whose signature is `found`.
+    /// The bytes of the game's record are no longer those of a game with the signature that is kept. They are no
+    /// record, or one of a game whose signature is `found`.
     #[error("game {game} has changed")]
     Changed {
         game: u32,
@@ -128,10 +128,12 @@ pub trait Games {
         ensures extent { result ≡ extent_in (extents self.now) i }
         ensures short { result.len ≤ 131071 };
 
-    /// Reads the record of game `i` into the front of `buf`, which has at least 131,072 bytes, and answers its length, at most 131,071. Each
-    /// record ends within the length of the games file that is known. So many bytes count as asked, after an error too.
+    /// Reads the record of game `i` into the front of `buf`, which has at least 131,072 bytes, and answers its length,
+    /// at most 131,071. Each record ends within the length of the games file that is known. So many bytes count as
+    /// asked, after an error too.
     ///
-    /// The bytes need not be looked at: `Changed` comes only where they are, and are not those of a game with the signature that is kept.
+    /// The bytes need not be looked at: `Changed` comes only if they are, and if they are not those of a game with the
+    /// signature that is kept.
     fn fetch<F: Files>(&self, i: u32, files: &mut F, buf: &mut [u8]) -> Result<u32, FetchError>
         requires game { i < length (sigs self.now) }
         requires room { 131072 ≤ length buf.old }

@@ -18,7 +18,7 @@ use crate::mat_query::MatRange;
 // The ten counts of the initial position.
 const START_COUNTS: [u8; 10] = [1, 2, 2, 2, 8, 1, 2, 2, 2, 8];
 
-/// Whether the counts of a game with this signature can have been at least those of the range at some ply. Where it answers false no ply
+/// Whether the counts of a game with this signature can have been at least those of the range at some ply. If it answers false no ply
 /// of the main line has counts in the range, and the game need not be read.
 #[tactic(auto, unfolding(crate::specs::Having::can_have))]
 pub fn can_have(s: &Brief<'_>, r: &MatRange) -> bool
@@ -27,7 +27,7 @@ pub fn can_have(s: &Brief<'_>, r: &MatRange) -> bool
     s.has_own_start() || colour_can_have(s, r, 0) && colour_can_have(s, r, 5)
 }
 
-/// A law: the counts of a legal game are at least those of a range at no ply where `can_have` is false for it.
+/// A law: if `can_have` is false for a range, the counts of a legal game are at least those of the range at no ply.
 pub fn start_men_skipping_is_sound()
     ensures sound { (game : GameTree) (sig : Signature) (range : Range) (k : ℕ) → Sound game.start → IsLegalGame game → IsSig game sig
         → AreAtLeast (counts_of (position_at game k).board) range → can_have sig range ≡ true }

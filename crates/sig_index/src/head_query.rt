@@ -6,9 +6,12 @@ use crate::Span;
 use cell_core::Text;
 use game_tree::Outcome;
 
-/// What a search of heads asks of a game: all of the items that are there. A text of a name is one that the name begins
-/// with, byte by byte; `player` is that of either colour. `plies` are those of the main line, at most 1,023 of them
-/// counted, `eco` are codes as a head has them, and `mark` is a bit of a head's marks, below 18.
+/// What a search of heads asks of a game: all of the items that are there.
+///
+/// - A text of a name is one that the name begins with, byte by byte; `player` is that of either colour.
+/// - `plies` are those of the main line, of which at most 1,023 are counted.
+/// - `eco` are codes as a head has them.
+/// - `mark` is a bit of a head's marks, below 18.
 #[derive(Debug, Drop)]
 pub struct HeadQuery {
     pub white: Option<Text>,

@@ -1,5 +1,5 @@
 //! Which games a search of a position can leave unread, by the pawns that stand at home.
-ghost use Rattle.std.specs.Prelude.{◌≡◌, ◌≤◌, ◌<◌, ℕ, true, not, nat_eq, take, length};
+ghost use Rattle.std.specs.Prelude.{◌≡◌, ◌≤◌, ◌<◌, ◌*◌, ◌-◌, ◌/◌, ◌%◌, ◌^◌, ℕ, true, not, nat_eq, take, length};
 ghost use Rattle.std.specs.List.{list_any};
 ghost use Rattle.chess_laws.specs.Counts.{is_home};
 ghost use Rattle.chess_laws.specs.Position.{Sound, start_setup};
@@ -16,9 +16,9 @@ ghost use Rattle.sig_index.specs.declared.signature.Sig.{Sig as Signature};
 
 use crate::brief::Brief;
 
-/// Whether the pawns that stand at home can be those of a set, bit v for the home value v, at some ply of a game with this signature:
-/// the set has all values but those of the first pawns that left. Of a game with an own start nothing is known. A home list has at most 16
-/// values, each below 16.
+/// Whether the pawns that stand at home can be those of a set at some ply of a game with this signature. Bit v of the
+/// set stands for the home value v. The set can be theirs if it has all values but those of the first pawns that left,
+/// and every set can be that of a game with an own start. A home list has at most 16 values, each below 16.
 #[tactic(auto, unfolding(crate::specs::Homes::home_allows))]
 pub fn home_allows(s: &Brief<'_>, set: u16) -> bool
     requires home { IsHomeList s.now.home }
@@ -27,8 +27,8 @@ pub fn home_allows(s: &Brief<'_>, set: u16) -> bool
     s.has_own_start() || is_all_but_first(s, set)
 }
 
-/// A law: no move takes two pawns off their own squares, and none brings one back; so the pawns at home at a ply of a legal game from the
-/// initial position are all but the first of those that left, and `home_allows` holds for them.
+/// A law: no move takes two pawns off their own squares, and none brings one back. So the pawns at home at a ply of a
+/// legal game from the initial position are all but the first of those that left. `home_allows` holds for them.
 pub fn home_pawn_skipping_is_sound()
     ensures one_leaves { (p : Setup) (m : Move) (q : Setup) → Sound p → Step p m q → length (leaving_between p q) ≤ 1 }
     ensures none_returns { (p : Setup) (m : Move) (q : Setup) (value : ℕ) → Sound p → Step p m q → value < 16 → is_home q.board value ≡ true → is_home p.board value ≡ true }
@@ -42,16 +42,27 @@ fn is_all_but_first(s: &Brief<'_>, set: u16) -> bool
     requires home { IsHomeList s.now.home }
     ensures { result ≡ is_all_but_first (take s.now.home.count s.now.home.values) set }
 {
+    let word = s.home_word();
     let mut still = u16::MAX;
     for i in 0..s.home_count() {
         if still == set {
             return true;
         }
-        let value = s.home_value(usize::from(i));
+        let value = home_value(word, i);
         if (set >> value) % 2 == 1 {
             return false;
         }
         still &= !(1 << value);
     }
     still == set
+}
+
+// The home value at a place of a word of them.
+#[inline(always)]
+fn home_value(word: u64, i: u8) -> u8
+    requires { i < 16 }
+    ensures value { result ≡ word / 2 ^ (60 - 4 * i) % 16 }
+    ensures small { result < 16 }
+{
+    ((word >> (60 - 4 * i)) % 16) as u8
 }

@@ -11,8 +11,8 @@ ghost use Rattle.sig_index.specs.Games.{HasChanged, Holds};
 ghost use Rattle.sig_index.specs.Left.{left_from};
 ghost use Rattle.sig_index.specs.Signature.{IsSig, left_of};
 
-/// A law: no pawn leaves its own square twice; and the home values that left, in a legal game from the initial position, are for each
-/// move of the main line in turn those of the pawns that stood at home before it and do not after it.
+/// A law: no pawn leaves its own square twice. In a legal game from the initial position, each move of the main line
+/// adds to the home values that left those of the pawns that stood at home before it and do not after it.
 pub fn pawns_leave_once()
     ensures once { (game : GameTree) (value : ℕ) → count_by (nat_eq value) (left_of game) ≤ 1 }
     ensures each_move { (game : GameTree) → Sound game.start → IsLegalGame game → game.start ≡ start_setup → left_of game ≡ left_from game 0 (plies_of game) }
@@ -25,7 +25,8 @@ pub fn held_records_stay()
         (found : Option Sig) → Holds games extents sigs list → HasChanged sigs extents (Some games) buffer game kept found → ⊥ }
 {}
 
-/// A law: a signature has the mark of an own start exactly where the game begins at another position than the initial one.
+/// A law: a signature has the mark of an own start if and only if the game begins at another position than the initial
+/// one.
 pub fn own_starts_are_marked()
     ensures marked { (game : GameTree) (sig : Sig) → IsSig game sig → MatchBool sig.own_start (game.start ≡ start_setup → ⊥) (game.start ≡ start_setup) }
 {}

@@ -15,7 +15,7 @@ pub enum Mode {
 }
 
 /// What a search of positions asks: a position that has in common with `board` what `mode` says, with `side` to move. With `vars` the
-/// variations are looked at too, where none of the main line is one.
+/// variations are looked at too, if none of the main line is one.
 #[derive(Clone, Copy, Debug, PartialEq, Eq)]
 pub struct PosQuery {
     pub mode: Mode,

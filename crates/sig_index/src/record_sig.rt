@@ -44,7 +44,7 @@ pub fn signed(bytes: &[u8]) -> Result<Sig, RecordFault>
     })
 }
 
-// Goes to the end of the main line, and gives the pawns that leave their own squares along it; none where the game has an own start.
+// Goes to the end of the main line, and gives the pawns that leave their own squares along it; none if the game has an own start.
 fn left_along(reading: &mut Reading<'_>, own_start: bool) -> Result<HomeList, RecordFault>
     requires begun { reading.old.ply ≡ 0 }
     requires initial { own_start ≡ false → reading.old.position ≡ start_setup }

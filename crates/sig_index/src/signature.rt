@@ -27,7 +27,7 @@ pub struct Sig {
     /// The final counts of queens, rooks, bishops, knights and pawns, White's and then Black's; more than three count as three, but for
     /// pawns.
     pub material: [u8; 10],
-    /// The pawns that left their own squares along the main line; none where the game has an own start.
+    /// The pawns that left their own squares along the main line; none if the game has an own start.
     pub home: HomeList,
     /// The plies of the main line; more than 1,023 count as 1,023.
     pub plies: u16,

@@ -8,7 +8,7 @@ ghost use Rattle.game_tree.specs.Replay.{plies_of, position_at};
 ghost use Rattle.sig_index.specs.Signature.{IsSig};
 ghost use Rattle.sig_index.specs.declared.mat_query.MatRange.{MatRange as Range};
 ghost use Rattle.sig_index.specs.declared.signature.Sig.{Sig as Signature};
-ghost use Rattle.sig_index.specs.Skipping.{AreAtMost, can_stand, colour_can_stand, rise};
+ghost use Rattle.sig_index.specs.Skipping.{AreAtMost, are_within, can_stand, colour_can_stand, rise};
 ghost use Rattle.sig_index.specs.Coming.{over_lesser};
 
 use crate::brief::Brief;
@@ -30,16 +30,41 @@ pub fn material_skipping_is_sound()
 {}
 
 // Whether one colour's counts, of which these are the last, can have been at most those of the range; its queens stand at this place
-// among the ten.
+// among the ten. Where none is above the range no man has to be a promoted one, so that most games are told by that alone.
+#[inline(always)]
+#[tactic(auto, using(crate::proofs::StandLemmas::within_or_promoted))]
 fn colour_can_stand(s: &Brief<'_>, material: &[u8; 10], r: &MatRange, queens: usize) -> bool
     requires material { material.now ≡ s.now.material }
     requires place { queens ≤ 5 }
     ensures { result ≡ colour_can_stand s.now r.now queens }
 {
+    are_within(material, r, queens) || s.has_promotion() && can_have_promoted(s, r, queens)
+}
+
+// Whether none of one colour's last counts is above the greatest that the range allows.
+#[inline(always)]
+fn are_within(material: &[u8; 10], r: &MatRange, queens: usize) -> bool
+    requires { queens ≤ 5 }
+    ensures { result ≡ are_within material.now r.now.hi queens }
+{
+    material[queens] <= r.hi[queens]
+        && material[queens + 1] <= r.hi[queens + 1]
+        && material[queens + 2] <= r.hi[queens + 2]
+        && material[queens + 3] <= r.hi[queens + 3]
+        && material[queens + 4] <= r.hi[queens + 4]
+}
+
+// Whether one colour's counts can have been at most those of the range where pawns were promoted.
+#[inline(never)]
+fn can_have_promoted(s: &Brief<'_>, r: &MatRange, queens: usize) -> bool
+    requires place { queens ≤ 5 }
+    ensures { result ≡ colour_can_stand s.now r.now queens }
+{
+    let material = s.material();
     let pawns = material[queens + 4];
     let allowed = r.hi[queens + 4];
-    let lesser = lesser_rises(material, r, queens);
-    let all = rise(material, r, queens) + lesser;
+    let lesser = lesser_rises(&material, r, queens);
+    let all = rise(&material, r, queens) + lesser;
     pawns <= allowed
         && all <= u32::from(allowed.saturating_sub(pawns))
         && (all == 0 || s.has_promotion())

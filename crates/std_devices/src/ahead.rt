@@ -42,7 +42,7 @@ impl Ahead {
         true
     }
 
-    /// Whether this place of the games file lies in the block that was turned to last, or in the one behind it. So it is where records
+    /// Whether this place of the games file lies in the block that was turned to last, or in the one behind it. So it is if records
     /// are read in their order.
     pub fn is_near(&self, offset: u64) -> bool {
         let block = offset / BLOCK as u64;

@@ -26,8 +26,8 @@ pub enum Righted {
     TakenAway,
 }
 
-/// Puts back what a compaction that was broken off had set aside, or finishes it where all three new files have their places, and takes
-/// away what a run left. Nothing is done while another run is at work on the base, nor where files stand there that no run leaves. Why it
+/// Puts back what a compaction that was broken off had set aside, or finishes it if all three new files have their places, and takes
+/// away what a run left. Nothing is done while another run is at work on the base, nor if files stand there that no run leaves. Why it
 /// fails is said on standard error.
 pub fn put_right(alloc: Global, system: &HostRuntime, name: &str) -> Result<Righted, DeviceError> {
     let Ok(mut places) = Places::new(alloc, system, name) else {
@@ -71,7 +71,7 @@ fn old_games(system: &HostRuntime, places: &Places) -> Result<Spot, Trouble> {
     }
 }
 
-// Puts the files right where nothing changes among them: who works on another machine may have another lock.
+// Puts the files right if nothing changes among them: who works on another machine may have another lock.
 fn right_claimed(system: &HostRuntime, places: &Places) -> Result<Righted, Trouble> {
     let found = Found::look(system, places)?;
     let standing = found.standing();
@@ -112,7 +112,7 @@ fn take_away(system: &HostRuntime, places: &Places, form: Form) -> Result<(), Tr
     Ok(())
 }
 
-// The file to name where no run leaves such files.
+// The file to name if no run leaves such files.
 fn strange(found: &Found) -> Spot {
     let old = found.first(Form::Old);
     let new = found.first(Form::New);

@@ -77,7 +77,7 @@ fn whole_len(kind: Kind, reach: Reach, header: &[u8]) -> u64 {
     }
 }
 
-// The number in three bytes, the highest first; none where the header is cut.
+// The number in three bytes, the highest first; none if the header is cut.
 fn number(bytes: Option<&[u8]>) -> u64 {
     match bytes {
         Some([high, middle, low]) => u64::from(u32::from_be_bytes([0, *high, *middle, *low])),

@@ -10,7 +10,7 @@ pub const TRIES: u32 = 41;
 
 const PAUSE: u64 = 50;
 
-/// Locks a games file. Where another run holds it, that is told, and it is waited for some two seconds.
+/// Locks a games file. If another run holds it, that is told, and it is waited for some two seconds.
 ///
 /// A lock that fails for another reason is none, and an error: nothing then keeps other runs away.
 pub fn claim(

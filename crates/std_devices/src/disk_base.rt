@@ -47,7 +47,7 @@ pub struct DiskBase {
     ahead: Ahead,
     // What was added behind the first addition, and is not in the file yet.
     waiting: Waiting,
-    // The new games file, where one was begun.
+    // The new games file, if one was begun.
     fresh: Option<NewGames>,
     // The new files that this run made and that are not in their places yet.
     made: Trio<Option<Stamp>>,
@@ -173,7 +173,7 @@ impl DiskBase {
         outcome
     }
 
-    // Writes what waits, where no other run may change the base meanwhile.
+    // Writes what waits, if no other run may change the base meanwhile.
     fn put_waiting(&mut self, system: &HostRuntime) -> Result<(), Trouble> {
         let count = self.waiting.bytes().len();
         if count == 0 {
@@ -189,13 +189,13 @@ impl DiskBase {
         self.note_added(count as u64)
     }
 
-    // Opens the games file for additions, where it is not. The base has to be as it was.
+    // Opens the games file for additions, unless it is open already. The base has to be as it was.
     fn open_adder(&mut self, system: &HostRuntime) -> Result<(), Trouble> {
         self.look(system)?;
         if self.adder.is_some() {
             return Ok(());
         }
-        // Where the names of new files do not fit, this tells before anything is added.
+        // If the names of new files do not fit, this tells before anything is added.
         is_there(system, &self.places, Kind::Index.new())?;
         let spot = Kind::Games.current();
         let path = self.places.path(spot);
@@ -226,7 +226,7 @@ impl DiskBase {
         Ok(())
     }
 
-    /// Makes `bytes` the whole of a part: they are written into a new file beside it, which then takes its place, so that
+    /// Makes `bytes` the whole of a part. They are written into a new file beside it, which then takes its place. So
     /// the part is as it was wherever that fails.
     pub fn replace(
         &mut self,
@@ -293,8 +293,9 @@ impl DiskBase {
         outcome
     }
 
-    /// Puts the new games file, to which `added` bytes were added, and new files of the two parts in the place of the current
-    /// three, of which each is as it was wherever that fails. There is no new games file afterwards.
+    /// Puts new files in the place of the current three: the new games file, to which `added` bytes were added, and
+    /// those of the two parts. Each of the three is as it was wherever that fails. There is no new games file
+    /// afterwards.
     pub fn commit_new(
         &mut self,
         system: &HostRuntime,
@@ -387,7 +388,7 @@ impl DiskBase {
         self.release();
     }
 
-    /// Removes the three files of a new base, where nothing was put in their places.
+    /// Removes the three files of a new base, if nothing was put in their places.
     pub fn take_away(&mut self, system: &HostRuntime) {
         self.end(system);
         if Kind::ALL.iter().all(|kind| self.files.of(*kind).len() == 0) {
@@ -442,7 +443,8 @@ impl DiskBase {
         }
     }
 
-    // Gives a new file the owner, the group and the mode of the current one. Where it has narrower rights that is said.
+    // Gives a new file the owner, the group and the mode of the current one. If the new file has narrower rights, a
+    // message tells it.
     fn like_current(&self, system: &HostRuntime, kind: Kind, file: &File) -> io::Result<()> {
         if give_rights(file, &self.files.of(kind).file)? == Rights::Narrower {
             say_narrower(system, &self.places, kind.current());
@@ -450,7 +452,8 @@ impl DiskBase {
         Ok(())
     }
 
-    // Hands the records that were added on to the disk, and the folder of the games file where it is not that of the index.
+    // Hands the records that were added on to the disk, and the folder of the games file unless it is that of the
+    // index.
     fn hand_on_added(&self, system: &HostRuntime) -> Result<(), Trouble> {
         if let Some(adder) = &self.adder {
             adder.sync_all().on(Kind::Games.current())?;

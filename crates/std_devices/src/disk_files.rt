@@ -88,13 +88,13 @@ impl<'r> DiskFiles<'r> {
         }
     }
 
-    /// Ends the work on the base: what was added and waits is written, where that goes, and a new games file that was begun and not committed
+    /// Ends the work on the base: what was added and waits is written, if that goes, and a new games file that was begun and not committed
     /// is removed.
     pub fn close(&mut self)
         ensures same { self.new ≡ self.old }
     {
         if let Some(mut base) = self.base.take() {
-            // No index points to what was not saved, so nothing is lost where this fails.
+            // No index points to what was not saved, so nothing is lost if this fails.
             let _ = base.write_waiting(self.system);
             base.end(self.system);
         }

@@ -67,7 +67,7 @@ impl Held {
         Ok(())
     }
 
-    /// Notes when it changed, where nothing else did: it got another name.
+    /// Notes when it changed, if nothing else did: it got another name.
     pub fn note_renamed(&mut self) {
         if let Ok(metadata) = self.file.metadata() {
             let changed = Stamp::of(&metadata).changed;
@@ -116,7 +116,7 @@ pub fn has_name<R: FileSystem>(system: &R, path: &str, held: &Held) -> io::Resul
     }
 }
 
-/// Removes the file at this path, where it is still this one.
+/// Removes the file at this path, if it is still this one.
 pub fn remove_if_same<R: FileSystem>(system: &R, path: &str, file: &Stamp) {
     if let Ok(metadata) = fs::symlink_metadata(system, path) {
         if Stamp::of(&metadata).is_of_the_file_of(file) {

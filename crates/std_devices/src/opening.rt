@@ -10,7 +10,7 @@ use std::rt::Files as FileSystem;
 
 /// Opens the three files of a base. With `create` each that is absent becomes an empty file.
 ///
-/// Nothing is renamed or removed, and a base of which a compaction was broken off is refused. Where another run's work comes between, it
+/// Nothing is renamed or removed, and a base of which a compaction was broken off is refused. If another run's work comes between, it
 /// begins again, for some two seconds. What stands beside the base is said on standard error.
 pub fn open_base(
     system: &HostRuntime,
@@ -116,7 +116,7 @@ fn note_beside(system: &HostRuntime, places: &Places, found: &Found) {
     }
 }
 
-/// Makes the three files of a new base, empty, where none of them is there. Where that fails, those that it made are gone again.
+/// Makes the three files of a new base, empty, if none of them is there. If that fails, those that it made are gone again.
 pub fn make_base(system: &HostRuntime, places: &Places) -> Result<Trio<Held>, Trouble> {
     let index = make_held(system, places, Kind::Index)?;
     let names = match make_held(system, places, Kind::Names) {
@@ -161,7 +161,7 @@ fn make_file(system: &HostRuntime, places: &Places, kind: Kind) -> std::io::Resu
         .open(system, places.path(kind.current()))
 }
 
-/// Removes a file that was made, where it still has its name.
+/// Removes a file that was made, if it still has its name.
 pub fn remove_made(system: &HostRuntime, places: &Places, kind: Kind, held: &Held) {
     remove_if_same(system, places.path(kind.current()), held.stamp());
 }

@@ -107,7 +107,7 @@ impl<T> Trio<T> {
 }
 
 impl Places {
-    /// The paths of the base of this name. Where a file of it is a symbolic link, all paths are those beside the file that the link names,
+    /// The paths of the base of this name. If a file of it is a symbolic link, all paths are those beside the file that the link names,
     /// so that the link stays one.
     pub fn new<R: FileSystem>(alloc: Global, system: &R, name: &str) -> Result<Places, AllocError> {
         let mut places = Places::unfollowed(alloc, name)?;

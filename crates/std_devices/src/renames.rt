@@ -54,8 +54,8 @@ pub enum Undone {
     NotAll,
 }
 
-// Gives the files of so many renames their old names again, the last one first. It ends at the first that fails, so that the index,
-// which was renamed first, stands in its place only where all others do.
+// Gives the files of so many renames their old names again, the last one first. It ends at the first that fails, so
+// that the index, which was renamed first, stands in its place only if all others do.
 fn undo<R: FileSystem>(system: &R, places: &Places, done: usize) -> Undone {
     for step in renames().iter().take(done).rev() {
         if rename(system, places, step.to, step.from).is_err() {

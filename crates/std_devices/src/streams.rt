@@ -6,8 +6,8 @@ use std::{fs, io};
 /// How many standard streams there are; their descriptors are those below.
 const STREAMS: i32 = 3;
 
-/// Opens each of the three standard streams that is closed on `/dev/null`, or on the root folder where that is not there: so no file
-/// of a base gets its descriptor, and with it what is written on standard output or error.
+/// Opens each of the three standard streams that is closed on `/dev/null`, or else on the root folder. So no file of a
+/// base gets its descriptor, and with it what is written on standard output or error.
 pub fn hold_standard_streams(system: &HostRuntime) {
     for _ in 0..STREAMS {
         match open_nothing(system) {

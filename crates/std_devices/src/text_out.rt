@@ -10,7 +10,7 @@ use std::io::{BufWriter, ErrorKind, Read, Write};
 /// How many bytes of text wait at most.
 const ROOM: usize = 32_768;
 
-/// An output whose text waits: it is handed on where it fills its room, and before a device is asked that stands behind it (`AfterText`).
+/// An output whose text waits: it is handed on if it fills its room, and before a device is asked that stands behind it (`AfterText`).
 ///
 /// Once a text could not be handed on, each later write fails as that did.
 #[derive(Drop)]
@@ -101,7 +101,7 @@ impl<'t, W: Write + Drop> Write for &'t TextOut<W> {
 /// A device that is asked behind the text. Each call of it is one of the device, with the same outcome, and what it shows is what the
 /// device shows.
 ///
-/// Of a reader, the text is handed on before more is read, and where that fails nothing is read. Of the files of a base, it is handed on
+/// Of a reader, the text is handed on before more is read, and if that fails nothing is read. Of the files of a base, it is handed on
 /// before files are opened or new ones take their place, whether that fails or not: so what is said then on standard error stands behind it.
 #[derive(Drop)]
 pub struct AfterText<'t, D, W: Write + Drop> {

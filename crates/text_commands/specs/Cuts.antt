@@ -11,7 +11,7 @@ use Rattle.shell_state.specs.declared.halt.Halt.{Halt}
 use Rattle.shell_state.specs.declared.halt.Halt.TheVariants as halt
 use Rattle.text_commands.specs.GameTexts.{ExportCut, IsTextIfIn, exported}
 
--- A game's text was written, or was broken off: nothing of it where the files failed, and else a front part. Told files never change.
+-- A game's text was written, or was broken off: nothing of it if the files failed, and else a front part. Told files never change.
 pub record GameCut (e : Halt) (text : List ℕ) (told : Option (List ℕ)) (told' : Option (List ℕ)) : Type 0 where
   pub wrote : Halted [] text told told'
   pub whole : e ≡ halt.Device stop.Files → told' ≡ told

@@ -46,7 +46,7 @@ exported plies games = texts_from text_if_in 0 plies games
 abbrev pub exported_first : ℕ → List (Option ℕ) → List Held → List ℕ
 exported_first count plies games = exported (take count plies) (take count games)
 
--- An export that was broken off at a game: the texts of the games before it are written whole, and nothing of its own where the files failed,
+-- An export that was broken off at a game: the texts of the games before it are written whole, and nothing of its own if the files failed,
 -- else a front part.
 pub record ExportCut (plies : List (Option ℕ)) (games : List Held) (e : Halt) (told : Option (List ℕ)) (told' : Option (List ℕ)) : Type 0 where
   pub count : ℕ

@@ -7,8 +7,8 @@ use Rattle.shell_state.specs.Lines.{line_of}
 use Rattle.shell_state.specs.State.{State}
 use Rattle.shell_state.specs.Work.{Work, quiet}
 
--- info: how many games there are, how many of them are marked as deleted, and how many names of each kind; whether there are changes that
--- are not saved; and the depth of the position index, or that there is none.
+-- info: how many games there are, how many of them are marked as deleted, and how many names of each kind. Behind them
+-- stand whether there are changes that are not saved, and the depth of the position index, or that there is none.
 abbrev pub info_text : State → List ℕ
 info_text s =
     let base : Base = s.shared.base in

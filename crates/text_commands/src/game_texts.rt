@@ -26,7 +26,7 @@ use pgn_write::write_game;
 use shell_state::{Halt, Machine, halt_of, no_game_line, write_full, write_line, write_page};
 use std::alloc::{AllocError, Global};
 
-/// show G
+/// The command `show G`: writes the game in PGN.
 #[tactic(auto, using(shell_state::proofs::Causing::unsaid_without))]
 pub fn show<F: Files, K: Sink>(
     alloc: Global,
@@ -80,7 +80,7 @@ fn show_there<F: Files, K: Sink>(
     write_one(alloc, &machine.base, i, files, block, out)
 }
 
-/// export
+/// The command `export`: writes the games of the filter in PGN, in their order.
 pub fn export<F: Files, K: Sink>(
     alloc: Global,
     machine: &mut Machine,
@@ -282,7 +282,7 @@ fn read_text<F: Files>(
     }
 }
 
-// Puts the text of a game behind another text, which stays as it is where that fails. Its record is read into `block`.
+// Puts the text of a game behind another text, which stays as it is if that fails. Its record is read into `block`.
 fn read_behind<F: Files>(
     alloc: Global,
     base: &Base,
@@ -314,7 +314,7 @@ fn read_behind<F: Files>(
     }
 }
 
-// Puts the text of a game with this head behind another text, which stays as it is where that fails.
+// Puts the text of a game with this head behind another text, which stays as it is if that fails.
 fn put_behind(alloc: Global, head: &Head, game: &Game, text: &mut Vec<u8>) -> Result<(), AllocError>
     requires legal { IsLegalGame game.now }
     requires bounded { IsBounded head.now }

@@ -24,7 +24,7 @@ use shell_state::{Halt, Machine, PIECE, filter_line};
 use sig_index::Games;
 use std::alloc::AllocError;
 
-/// list
+/// The command `list`: writes a line with the head of each game of the filter, and then that of the filter.
 pub fn list<K: Sink>(machine: &mut Machine, out: &mut K) -> Result<(), Halt>
     requires fits { Fits machine.old }
     requires sound { IsSound machine.old.kept }
@@ -85,7 +85,7 @@ fn put_list<K: Sink>(
     write_all(out, text.as_slice())
 }
 
-// Puts the line of a game behind the text, if it is in, and writes the text where it is long enough.
+// Puts the line of a game behind the text, if it is in, and writes the text if it is long enough.
 fn put_game<K: Sink>(
     text: &mut Vec<u8>,
     base: &Base,
@@ -163,7 +163,7 @@ fn push_facts(text: &mut Vec<u8>, head: &HeadRef<'_>) -> Result<(), AllocError>
     text.extend_from_slice(b" ")
 }
 
-// Puts an opening code behind the text, or a dash where there is none.
+// Puts an opening code behind the text, or a dash if there is none.
 fn push_eco(text: &mut Vec<u8>, eco: u16) -> Result<(), AllocError>
     requires eco { eco ≤ 65500 }
     ensures { OnOk result (text.new.items ≡ text.old.items ++ listed_eco eco) }

@@ -10,7 +10,7 @@ use shell_state::Machine;
 use sig_index::Games;
 use std::alloc::{AllocError, Global};
 
-/// quit
+/// The command `quit`: gives its line, which tells of changes that are not saved.
 pub fn quit(alloc: Global, machine: &Machine) -> Result<Vec<u8>, AllocError>
     requires fits { Fits machine.now }
     ensures quiet { IfOk result (λ line. Quiet machine.now quit_work machine.now line.items) }
@@ -22,7 +22,7 @@ pub fn quit(alloc: Global, machine: &Machine) -> Result<Vec<u8>, AllocError>
     }
 }
 
-/// info
+/// The command `info`: gives the line that tells what is in the base.
 pub fn info(alloc: Global, machine: &Machine) -> Result<Vec<u8>, AllocError>
     requires fits { Fits machine.now }
     ensures quiet { IfOk result (λ line. Quiet machine.now info_work machine.now line.items) }

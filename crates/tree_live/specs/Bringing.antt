@@ -5,7 +5,7 @@ use Rattle.tree_live.specs.declared.change.Change.{Change}
 use Rattle.tree_live.specs.Watching.{Watched}
 use Rattle.tree_live.specs.Slots.{in_slot, IsShown, IsTold, changed, most_told}
 
--- A change was brought to the slot k, whether or not it went well: its view was told so much, it is not watched where it was not, and every
+-- A change was brought to the slot k, whether or not it went well: its view was told so much, it is not watched if it was not, and every
 -- other slot is as before.
 pub record ToldAt {B : Type 0} (told : B → ℕ) (change : Change) (first k : ℕ) (watches watches_after : List (Option Watched))
     (views views_after : List (Option B)) : Type 0 where

@@ -48,6 +48,6 @@ pub record Sums (games : List Entry) (rows : List Row) : Type 0 where
 abbrev pub marked : Marks → Entry → Option ℕ → Entry
 marked marks game mark = record game { is_in = wanted marks game.is_in mark }
 
--- The games with one more, which has no hit, where there is none of this number.
+-- The games with one more, which has no hit, unless there is one of this number.
 abbrev pub reaching : ℕ → List Entry → List Entry
 reaching i games = if nat_lt i (length games) then games else games ++ no_game ∷ []

@@ -10,7 +10,7 @@ use Rattle.tree_live.specs.Views.{Shows}
 use Rattle.tree_live.specs.RowChanges.{rows_changed}
 use Rattle.tree_live.specs.Watching.{Watched, hits_in, all_changes, staying, under, with_game}
 
--- The slot k is the view with the number first + k, for each k below the count; where it is watched, its watch.
+-- The slot k is the view with the number first + k, for each k below the count; if it is watched, its watch.
 pub record Slotted : Type 0 where
   pub first : ℕ
   pub count : ℕ
@@ -73,8 +73,8 @@ pub record AreTold {B : Type 0} (told : B → ℕ) (slots : Slotted) (most : ℕ
   pub others : (i : ℕ) → i < slots.first → in_slot after i ≡ in_slot before i
   pub number : length after ≡ length before
 
--- A slot that is to show these rows holds its view, if it held one, which was told no more changes than rows differ from those of the hits
--- that it showed; one that is to show nothing is as before.
+-- A slot that is to show these rows holds its view, if it held one. The view was told no more changes than rows differ
+-- from those of the hits that it showed. A slot that is to show nothing is as before.
 abbrev pub IsToldRows : {B : Type 0} → (B → List Row) → (B → ℕ) → Option (List Row) → Option B → Option B → Type 0
 IsToldRows rows told None before after = after ≡ before
 IsToldRows rows told (Some later) None after = after ≡ None

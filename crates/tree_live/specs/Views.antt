@@ -6,7 +6,7 @@ use Rattle.tree_rows.specs.declared.row.Row.{Row}
 use Rattle.tree_rows.specs.Keys.{same_key}
 use Rattle.tree_rows.specs.Rows.{row_at, rows_of}
 
--- The row of one key is set, or taken out where it is none, and every other key has the row that it had.
+-- The row of one key is set, or taken out if it is none, and every other key has the row that it had.
 pub record Sets (key : Option Move) (row : Option Row) (before after : List Row) : Type 0 where
   pub own : row_at key after ≡ row
   pub others : (other : Option Move) → same_key key other ≡ false → row_at other after ≡ row_at other before

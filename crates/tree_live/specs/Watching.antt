@@ -1,4 +1,4 @@
--- What a watch keeps of the games of a base, and what changes where the filter or a game does (this project's own).
+-- What a watch keeps of the games of a base, and what changes when the filter or a game does (this project's own).
 use Rattle.std.specs.Prelude.{ℕ, ◌+◌, ◌==◌, ◌&&◌, if◌then◌else◌, Bool, true, false, List, [], ◌∷◌, ◌++◌, Option, Some, None, map, is_some, option_to_list, length, slice_set, nat_lt}
 use Rattle.cell_core.specs.Packed.{Packed}
 use Rattle.game_tree.specs.declared.head.Outcome.{Outcome}
@@ -15,7 +15,7 @@ pub record Watched : Type 0 where
   pub board : Packed
   pub games : List Entry
 
--- The hit of a game, where it is in the filter.
+-- The hit of a game, if it is in the filter.
 abbrev pub counted : Entry → Option GameHit
 counted game = if game.is_in then game.hit else None
 
@@ -28,8 +28,8 @@ hits_in (game ∷ games) = option_to_list (counted game) ++ hits_in games
 abbrev pub all_out : List (Option GameHit) → List Entry
 all_out hits = map (λ hit. record { hit = hit; is_in = false }) hits
 
--- Whether a game that is in or out is in by a mark: a filter has a ply for each game that is in, and a renumbering leaves the games as
--- they are, but that those that get no new number are out.
+-- Whether a game that is in or out is in by a mark. A filter has a ply for each game that is in. A renumbering leaves
+-- the games as they are, but those that get no new number are out.
 abbrev pub wanted : Marks → Bool → Option ℕ → Bool
 wanted Plies is_in mark = is_some mark
 wanted Numbers is_in mark = is_in && is_some mark
@@ -67,8 +67,8 @@ same_counted None None = true
 same_counted (Some a) (Some b) = same_hit a b
 same_counted a b = false
 
--- How many changes it is that a game counts so afterwards: none where it is the same, else one for the hit that goes out, if there is
--- one, and one for the hit that comes in, if there is one.
+-- How many changes it is that a game counts so afterwards: none if it counts the same. Else it is one for the hit that
+-- goes out, if there is one, and one for the hit that comes in, if there is one.
 abbrev pub changes : Option GameHit → Option GameHit → ℕ
 changes before after = if same_counted before after then 0 else length (option_to_list before) + length (option_to_list after)
 

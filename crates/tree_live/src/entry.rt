@@ -5,7 +5,7 @@ ghost use Rattle.tree_live.specs.Watching.{counted, same_counted, same_hit, same
 use game_tree::Outcome;
 use tree_rows::{GameHit, same_key};
 
-/// A game to a watch: what is counted of it where it meets the position that is watched, and whether it is in the filter.
+/// A game to a watch: what is counted of it if it meets the position that is watched, and whether it is in the filter.
 #[derive(Clone, Copy, Debug)]
 pub struct Entry {
     pub hit: Option<GameHit>,
@@ -13,7 +13,7 @@ pub struct Entry {
 }
 
 impl Entry {
-    /// The hit of the game, where it is in the filter.
+    /// The hit of the game, if it is in the filter.
     pub fn counted(&self) -> Option<GameHit>
         ensures counted { result ≡ counted self.now }
     {

@@ -1,5 +1,5 @@
-//! Live trees: the rows of a position that is watched, which a view shows and which follow the filter and the games, told row by row, with
-//! each change or later by one call.
+//! Live trees: the rows of a position that is watched. A view shows them, and they follow the filter and the games. The
+//! view is told row by row, with each change or later by one call.
 #![tactic(auto)]
 
 mod bringing;

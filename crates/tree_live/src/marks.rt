@@ -5,9 +5,9 @@ ghost use Rattle.tree_live.specs.Watching.{wanted};
 /// What a list of marks, one per game, says of whether the games are in.
 #[derive(Clone, Copy, Debug)]
 pub(crate) enum Marks {
-    /// A filter: a game is in where it has a ply.
+    /// A filter: a game is in if it has a ply.
     Plies,
-    /// A renumbering: a game goes out where it gets no new number.
+    /// A renumbering: a game goes out if it gets no new number.
     Numbers,
 }
 

@@ -35,7 +35,7 @@ pub(crate) fn take_row(rows: &mut Vec<Row>, key: &Option<Move>)
     }
 }
 
-// The place of the first row with this key, or the number of rows where none has it.
+// The place of the first row with this key, or the number of rows if none has it.
 fn place_of(rows: &[Row], key: &Option<Move>) -> usize
     ensures place { result ≡ place_of key.now rows.now }
     ensures within { result ≤ length rows.now }

@@ -64,7 +64,7 @@ impl Slots {
         k < self.count && place < views.len() && views[place].is_some()
     }
 
-    /// The board and side that slot `k` shows, or none where it is not watched, as no slot from their count on is.
+    /// The board and side that slot `k` shows, or none if it is not watched. No slot from their count on is watched.
     pub fn watched(&self, k: u8) -> Option<&PackedBoard>
         ensures board { option_copied result ≡ option_map (λ watch. watch.board) (in_slot self.now.watches k) }
         ensures below { AreBelow self.now.count self.now.watches }
@@ -227,7 +227,7 @@ impl Slots {
         self.follow(alloc, &Change::Numbers(renumbering))
     }
 
-    /// The hit that slot `k` keeps of game `i`: none where it is not watched, or where there is no such game.
+    /// The hit that slot `k` keeps of game `i`, or none if the slot is not watched or has no such game.
     pub fn hit(&self, k: u8, i: u32) -> Option<GameHit>
         ensures hit { result ≡ kept_hit (in_slot self.now.watches k) i }
     {
@@ -242,8 +242,8 @@ impl Slots {
         }
     }
 
-    /// Takes the games of the filter in and the others out of `count` slots from slot `start` on, and tells the view of each of them that is
-    /// watched the rows that differ from those it shows.
+    /// Takes the games of the filter in and the others out of `count` slots from slot `start` on. It tells the view of
+    /// each of them that is watched the rows that differ from those it shows.
     pub fn show(
         &mut self,
         alloc: Global,

@@ -13,8 +13,8 @@ use std::alloc::{AllocError, Global};
 use std::marker::Model;
 use tree_rows::{GameHit, Rows};
 
-/// A board and a side to move that a view shows: for each game of the base its hit, if it meets the position, and whether it is in the
-/// filter, with the rows that sum the hits of the games that are in.
+/// A board and a side to move that a view shows. For each game of the base it has the hit, if the game meets the
+/// position, and whether the game is in the filter. Its rows sum the hits of the games that are in.
 ///
 /// Contracts see the board and the games. The view is not kept: each call is lent it.
 #[derive(Drop)]
@@ -406,7 +406,7 @@ impl Watch {
         Ok(())
     }
 
-    // One more game where there is none of this number.
+    // One more game, unless there is one of this number.
     fn reach(&mut self, i: usize) -> Result<(), AllocError>
         requires room { i < 16777214 }
         requires game { i ≤ length self.old.games }

@@ -13,8 +13,8 @@ abbrev pub rating_from : Colour → ℕ → ℕ → ℕ
 rating_from White white black = white
 rating_from Black white black = black
 
--- A game that meets the position with this side to move: the move after its first match, or none at its end, its result, the ratings
--- of the side to move and of the other side, and its year, 0 where it is not known.
+-- A game that meets the position with this side to move: the move after its first match, or none at its end, and its
+-- result. It also has the ratings of the side to move and of the other side, and its year, 0 if it is not known.
 abbrev pub hit_from : Option Move → Colour → Outcome → ℕ → ℕ → ℕ → GameHit
 hit_from next side outcome white black year =
     record {
@@ -25,6 +25,6 @@ hit_from next side outcome white black year =
       year = year;
     }
 
--- The same of a game with this head: its ratings are those of every kind, 0 where a side has none.
+-- The same of a game with this head: its ratings are those of every kind, 0 if a side has none.
 abbrev pub hit_of : Option Move → Colour → Head → GameHit
 hit_of next side head = hit_from next side head.result head.white_rating.value head.black_rating.value head.date.year

@@ -14,7 +14,7 @@ use Rattle.tree_rows.specs.Keys.{key_cmp, same_key}
 abbrev pub sum_at : Option Move → (GameHit → ℕ) → List GameHit → ℕ
 sum_at key number hits = sum_by (λ hit. if same_key key hit.next then number hit else 0) hits
 
--- 1 where a game ended so, and 0 elsewhere.
+-- 1 if a game ended so, and 0 elsewhere.
 abbrev pub ended : Outcome → Outcome → ℕ
 ended outcome result = if outcome_number outcome == outcome_number result then 1 else 0
 

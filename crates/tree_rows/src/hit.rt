@@ -5,8 +5,9 @@ ghost use Rattle.tree_rows.specs.Hits.{hit_from, rating_from};
 use cell_core::{Colour, Move};
 use game_tree::Outcome;
 
-/// A game that meets a position: the move after its first match, or none where the game ends there, its result, the ratings of the side to
-/// move and of the other side, and its year. Ratings and years are 0 where they are not known.
+/// A game that meets a position: the move after its first match, or none if the game ends there, and its result. It
+/// also has the ratings of the side to move and of the other side, and the year. Ratings and years are 0 if they are
+/// not known.
 #[derive(Clone, Copy, Debug, PartialEq, Eq)]
 pub struct GameHit {
     pub next: Option<Move>,

@@ -14,7 +14,7 @@ ghost use Rattle.tree_rows.specs.Rows.{KeysDiffer, row_at, rows_of};
 ghost use Rattle.tree_rows.specs.MoveText.{needed};
 ghost use Rattle.tree_rows.specs.TreeText.{tree_text};
 
-/// A law: keys are the same only where they are one move, or `end` both times.
+/// A law: keys are the same if and only if they are one move, or `end` both times.
 pub fn keys_are_told_apart()
     ensures same { (a b : Option Move) → (same_key a b ≡ true) ↔ (a ≡ b) }
 {}
@@ -35,8 +35,9 @@ pub fn rows_of_hits_have_one_text()
     ensures text { (men : Men) (side : Colour) (rows : List Row) (hits : List GameHit) → KeysDiffer rows → ((key : Option Move) → row_at key rows ≡ row_at key (rows_of hits)) → tree_text men side rows ≡ tree_text men side (rows_of hits) }
 {}
 
-/// A law: a move has the text of its row, its SAN in the position whose only right and en passant square are those that it needs, in
-/// every position of that board and side to move in which it is legal (PGN standard, 8.2.3).
+/// A law: the text of a row is that of its move in every position of its board and side to move in which the move is
+/// legal (PGN standard, 8.2.3). The text of a row is the SAN of its move in the position whose only right and en
+/// passant square are those that the move needs.
 pub fn texts_of_moves_are_shared()
     ensures shared { (p : Setup) (m : Move) → Sound p → Legal p m → san_text (needed p.board p.side m) m ≡ san_text p m }
 {}

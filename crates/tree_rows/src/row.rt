@@ -7,8 +7,9 @@ use crate::hit::GameHit;
 use cell_core::Move;
 use game_tree::Outcome;
 
-/// The games that go on with one move, or that end at the position where the key is none: how many there are, with each result, the sums of
-/// the ratings of the side to move and of the other side and of the years, and how many games have each of them.
+/// The games that go on with one move, or that end at the position if the key is none. A row has how many there are,
+/// with each result, and the sums of the ratings of the side to move, of those of the other side, and of the years.
+/// Beside each sum stands how many games have such a number.
 #[derive(Clone, Copy, Debug, PartialEq, Eq)]
 pub struct Row {
     pub key: Option<Move>,
@@ -98,7 +99,7 @@ fn raised(sum: u64, number: u16) -> u64
     sum + u64::from(number)
 }
 
-// One where a game ended so.
+// One if a game ended so.
 fn ended(outcome: Outcome, result_of_game: Outcome) -> u32
     ensures one { result ≡ ended outcome result_of_game }
     ensures few { result ≤ 1 }

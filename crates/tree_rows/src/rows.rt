@@ -57,7 +57,7 @@ impl Rows {
         }
     }
 
-    /// Counts one hit more, where fewer than 16,777,214 are counted. After want of memory the rows are as they were.
+    /// Counts one hit more, if fewer than 16,777,214 are counted. After want of memory the rows are as they were.
     pub fn add_hit(&mut self, hit: &GameHit) -> Result<(), AllocError>
         requires few { AreRows 16777213 self.old }
         ensures rows { (hits : List Hit) → self.old ≡ rows_of hits → OnOk result (self.new ≡ rows_of (hits ++ hit.now ∷ [])) }

@@ -14,8 +14,9 @@ use cell_core::{Board, Colour};
 use itoa::Buffer;
 use std::alloc::{AllocError, Global};
 
-/// Adds the text of a tree of this board and side to move: a line for each row, by games falling and then by key, and one for the sums of
-/// all rows. Each key is a move that is legal from some position of this board and side, or none.
+/// Adds the text of a tree of this board and side to move. It has a line for each row, by games falling and then by
+/// key, and one for the sums of all rows. Each key is a move that is legal from some position of this board and side,
+/// or none.
 ///
 /// It fails only for want of memory, and then nothing was added.
 #[tactic(auto, using(std::proofs::Common::append_assoc), unfolding(crate::specs::TreeText::tree_text))]
@@ -115,7 +116,7 @@ fn push_number(into: &mut Vec<u8>, number: u128) -> Result<(), AllocError>
     push_right(into, digits.format(number).as_bytes(), 9)
 }
 
-// Adds a quotient at the right of six places, or a dash where nothing can be divided by.
+// Adds a quotient at the right of six places, or a dash if nothing can be divided by.
 fn push_quotient(into: &mut Vec<u8>, number: u128, by: u128) -> Result<(), AllocError>
     ensures { OnOk result (into.new.items ≡ into.old.items ++ right_in 6 (quotient number by)) }
 {

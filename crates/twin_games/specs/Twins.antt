@@ -25,7 +25,7 @@ no_game = record { start = start_setup; lead = None; line = ends }
 abbrev pub game_in : List GameTree → ℕ → GameTree
 game_in games i = slice_index_or games i no_game
 
--- The first moves of a main line, so many of them, or all where the line ends before.
+-- The first moves of a main line, so many of them, or all if the line ends before.
 abbrev pub first_moves : ℕ → GameTree → List Move
 first_moves depth game = take depth (main_moves game)
 

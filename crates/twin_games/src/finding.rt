@@ -15,10 +15,14 @@ use indexmap::IndexSet;
 use sig_index::Games;
 use std::alloc::{AllocError, Global};
 
-/// The numbers of the games that are twins, in rising order: of each undeleted game before which an undeleted one stands with the same
-/// names of White and Black, date, result and start position, and the same first `depth` moves of the main line, each line cut where it
-/// ends. `buf` has at least 131,072 bytes. A game's record is read, once, if it is undeleted and has the names, the date and the result of
-/// another undeleted game, and so many bytes count as asked.
+/// Gives the numbers of the games that are twins, in rising order. A game is a twin if it is undeleted and an undeleted
+/// game before it has
+///
+/// - the same names of White and Black, date, result and start position, and
+/// - the same first `depth` moves of the main line, or all of them if the lines end before.
+///
+/// `buf` has at least 131,072 bytes. A game's record is read, once, if it is undeleted and has the names, the date and
+/// the result of another undeleted game, and so many bytes count as asked.
 pub fn twins<G: Games, F: Files>(
     alloc: Global,
     games: &G,

@@ -24,7 +24,7 @@ pub(crate) struct Met<'a> {
     opening: Opening,
 }
 
-/// Whether game `i` is a twin, where `met` is of the games before it. A game is read if it is undeleted and has the names, the date and
+/// Whether game `i` is a twin, if `met` is of the games before it. A game is read if it is undeleted and has the names, the date and
 /// the result of another undeleted one.
 pub(crate) fn meet<'a, G: Games, F: Files>(
     alloc: Global,

@@ -27,7 +27,7 @@ pub(crate) struct Opening {
     moves: Vec<Move>,
 }
 
-/// The opening of a record of fewer than 2^32 bytes, with at most `depth` moves, or `None` where the bytes are no record.
+/// The opening of a record of fewer than 2^32 bytes, with at most `depth` moves, or `None` if the bytes are no record.
 pub(crate) fn opening_of(
     alloc: Global,
     bytes: &[u8],
@@ -59,7 +59,7 @@ fn start_of(p: &Position) -> Start
     }
 }
 
-// The first moves of a walk that has made no step, at most `depth`, or `None` where its bytes are no record.
+// The first moves of a walk that has made no step, at most `depth`, or `None` if its bytes are no record.
 fn moves_of(alloc: Global, walk: &mut Walk<'_>, depth: u32) -> Result<Option<Vec<Move>>, AllocError>
     requires { walk.old.ply ≡ 0 }
     ensures { IfOk result (λ read. MatchOption read (IsSomeRecord walk.old.bytes → ⊥)

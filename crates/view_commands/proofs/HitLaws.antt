@@ -5,11 +5,11 @@ use Rattle.std.proofs.lemmas.Option.{same_Some}
 use Rattle.std.specs.Prelude.{if◌then◌else◌, IfSome, option_to_list, slice_set}
 use Rattle.base_core.specs.Base.{Held}
 use Rattle.cell_core.specs.Packed.{Packed}
-use Rattle.search_commands.specs.Trees.{listed_hit, tree_hits}
 use Rattle.shell_state.proofs.TableLaws.{in_mapped, in_tables, same_slots}
 use Rattle.shell_state.specs.Slots.{HitTable, Slot, exactly_on, hit_of_game, slot_at, table_in, table_of, tables_in, tables_of}
 use Rattle.shell_state.specs.Slots.Slot.{shows}
 use Rattle.shell_state.specs.State.{State}
+use Rattle.shell_state.specs.Meeting.{listed_hit, tree_hits}
 use Rattle.sig_index.specs.declared.pos_query.PosQuery.{PosQuery}
 use Rattle.tree_live.specs.Slots.{in_slot}
 use Rattle.tree_live.specs.Watching.{Watched, all_out, hits_in, under}

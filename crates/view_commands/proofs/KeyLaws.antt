@@ -19,8 +19,8 @@ use Rattle.game_tree.proofs.LegalLemmas.{IsLegalGame-next}
 use Rattle.pos_search.specs.Matching.{first_if_aside, first_on_main, hit_of, matches_at}
 use Rattle.pos_search.proofs.Words.{hit_aside}
 use Rattle.pos_search.proofs.MatchLemmas.{matched}
-use Rattle.search_commands.specs.Trees.{hit_if_in, listed_hit, tree_hits}
 use Rattle.shell_state.specs.Slots.{hit_of_game}
+use Rattle.shell_state.specs.Meeting.{hit_if_in, listed_hit, tree_hits}
 use Rattle.sig_index.proofs.PrefixLemmas.{moves_at}
 use Rattle.sig_index.proofs.Ranges.{found_first}
 use Rattle.sig_index.proofs.RecordLemmas.{game_legal, game_sound}

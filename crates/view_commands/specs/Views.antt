@@ -4,13 +4,12 @@ use Rattle.cell_core.specs.Board.{Men}
 use Rattle.cell_core.specs.Packed.{Packed, packed_of}
 use Rattle.cell_core.specs.declared.man.Colour.{Colour}
 use Rattle.game_filter.specs.declared.op.Op.TheVariants.{Ignore}
-use Rattle.search_commands.specs.Searching.{position_len}
-use Rattle.search_commands.specs.Trees.{tree_hits, tree_of}
 use Rattle.shell_state.specs.Lines.{game_line}
 use Rattle.shell_state.specs.Slots.{Slot, exactly, exactly_on, hit_of_game, slot_at}
 use Rattle.shell_state.specs.Slots.Slot.{empty, idle, shows}
 use Rattle.shell_state.specs.State.{State}
 use Rattle.shell_state.specs.Work.{Work, quiet, reading}
+use Rattle.shell_state.specs.Meeting.{position_len, tree_hits, tree_of}
 use Rattle.tree_live.specs.RowChanges.{rows_changed}
 use Rattle.tree_live.specs.Slots.{in_slot}
 use Rattle.tree_live.specs.Views.{Shows}
@@ -21,14 +20,15 @@ use Rattle.tree_rows.specs.declared.hit.GameHit.{GameHit}
 use Rattle.tree_rows.specs.declared.row.Row.{Row}
 use Rattle.view_commands.specs.declared.window.Window.{Window}
 
--- Which of the slots are a user's own: so many from a number on, which he counts from 0. The user of a script that has no other has all eight.
+-- Which of the slots are a user's own: so many from a number on, which the user counts from 0. The user of a script
+-- that has no other has all eight.
 abbrev pub all_slots : Window
 all_slots = record { first = 0; count = 8 }
 
 abbrev pub is_own : Window → ℕ → Bool
 is_own w i = nat_le w.first i && nat_lt i (w.first + w.count)
 
--- What his slot k shows; past his last one there is none that has a view.
+-- What slot k of a user shows; past the user's last one there is none that has a view.
 abbrev pub own_slot : Window → State → ℕ → Slot
 own_slot w s k = if nat_lt k w.count then slot_at s.slots (w.first + k) else empty
 
@@ -107,7 +107,7 @@ changes_of s later _ = 0
 abbrev pub entries_of : State → Packed → List Entry
 entries_of s board = under s.seat.filter (all_out (map (hit_of_game (exactly_on board)) s.shared.base.games))
 
--- A view that stays was told no more than so many changes; there is none where there was none.
+-- A view that stays was told no more than so many changes; there is none if there was none.
 abbrev pub IsToldAtMost : {B : Type 0} → (B → ℕ) → ℕ → Option B → Option B → Type 0
 IsToldAtMost told most None after = after ≡ None
 IsToldAtMost told most (Some before) None = Unit {0}

@@ -7,8 +7,9 @@ ghost use Rattle.shell_state.specs.State.{HasFilters, State};
 ghost use Rattle.tree_live.specs.Watching.{all_changes, staying};
 ghost use Rattle.view_commands.specs.Views.{changes_of, entries_of};
 
-/// A law: the rows of a tree that differ between two states are at most one for each game whose hit goes and one for each whose hit comes, where a
-/// game that counts another hit counts as both, be it that the later state has all games of the earlier, or those that stay under new numbers.
+/// A law: how many rows of a tree differ between two states. They are at most one for each game whose hit goes and one
+/// for each whose hit comes; a game that counts another hit counts as both. The later state has all games of the
+/// earlier, or those that stay under new numbers.
 pub fn changes_are_those_of_games()
     ensures grown { (s later : State) (board : Packed) → HasFilters s → HasFilters later → length s.shared.base.games ≤ length later.shared.base.games
         → changes_of s later (shows board) ≤ all_changes (entries_of s board) (entries_of later board) }

@@ -23,8 +23,9 @@ pub fn show(
     requires room { window.first + window.count ≤ 8 }
     ensures same { OnOk result (machine.new ≡ machine.old) }
 
-    // His views, if they were right beside an earlier state with the same slots, are right beside this one, and were told no more changes than
-    // rows differ. Views of slots that show no tree, or that are not his own, are as before.
+    // The user's views, if they were right beside an earlier state with the same slots, are right beside this one, and
+    // were told no more changes than rows differ. Views of slots that show no tree, or that are not the user's own, are
+    // as before.
     ensures right { (seen : Seen) (earlier s : State) → Stands machine.old seen s → s.slots ≡ earlier.slots → AreRight (λ b. rows b) window earlier views.old → OnOk result (AreRight (λ b. rows b) window s views.new) }
     ensures told { (seen : Seen) (earlier s : State) → Stands machine.old seen s → s.slots ≡ earlier.slots → AreRight (λ b. rows b) window earlier views.old → OnOk result (AreToldAtMost (λ b. told b) (λ i. if is_own window i then changes_of earlier s (slot_at s.slots i) else 0) views.old views.new) }
     ensures left { (seen : Seen) (s : State) → Stands machine.old seen s → AreLeft (λ i. is_own window i && is_shown (slot_at s.slots i)) views.old views.new }

@@ -21,7 +21,7 @@ use std::alloc::{AllocError, Global};
 use tree_live::{NoView, TreeView};
 use tree_rows::{Row, is_key, lines};
 
-/// view K of a user: gives its text, which is not written yet.
+/// The command `view K` of a user: gives its text, which is not written yet.
 pub fn view(
     alloc: Global,
     machine: &Machine,
@@ -39,7 +39,8 @@ pub fn view(
     }
 }
 
-/// unwatch K of a user: gives its line, which is not written yet. Views of slots that are not his own are as before.
+/// The command `unwatch K` of a user: gives its line, which is not written yet. Views of slots that are not the user's own
+/// are as before.
 pub fn unwatch(
     alloc: Global,
     machine: &mut Machine,
@@ -64,7 +65,7 @@ pub fn unwatch(
     }
 }
 
-/// The slot that a user names by a number; past his last one the ninth, which none shows.
+/// The slot that a user names by a number. A number past the user's last one names the ninth, which shows no tree.
 pub(crate) fn slot_of(window: Window, number: u64) -> u8
     requires room { window.first + window.count ≤ 8 }
     ensures slot { number < window.count → result ≡ window.first + number }
@@ -107,7 +108,7 @@ fn text_of(alloc: Global, view: &dyn TreeView, packed: &PackedBoard) -> Result<V
     Ok(text)
 }
 
-// The rows that a view shows. One whose move is legal from no position of this board and side is left out: where the files are told there
+// The rows that a view shows. One whose move is legal from no position of this board and side is left out: if the files are told there
 // is none, but a view may stand beside files that tell nothing.
 fn shown_rows(
     alloc: Global,

@@ -24,14 +24,14 @@ use base_files::Files;
 use cell_core::{Board, Colour, pack};
 use pos_index::PosIndex;
 use pos_search::{Sought, hits_told};
-use search_commands::read_hit;
-use shell_state::{Halt, Machine, game_line};
+use shell_state::{Halt, Machine, game_line, read_hit};
 use sig_index::{Mode, PosQuery};
 use std::alloc::Global;
 use tree_live::TreeView;
 use tree_rows::GameHit;
 
-/// watch K BOARD SIDE of a user: gives its line, which is not written yet. Views of slots that are not his own are as before.
+/// The command `watch K BOARD SIDE` of a user: gives its line, which is not written yet. Views of slots that are not the
+/// user's own are as before.
 pub fn watch<F: Files>(
     alloc: Global,
     machine: &mut Machine,

@@ -2,10 +2,11 @@
 ghost use Rattle.std.specs.Prelude.{◌≡◌};
 ghost use Rattle.view_commands.specs.Views.{all_slots};
 
-/// The slots that are a user's own: `count` of the eight from the one with the number `first` on. He counts them from 0.
+/// The slots that are a user's own: `count` of the eight from the one with the number `first` on. The user counts them
+/// from 0.
 #[derive(Clone, Copy, Debug, PartialEq, Eq)]
 pub struct Window {
-    /// The number of his first one.
+    /// The number of the first one.
     pub first: u8,
     /// How many there are.
     pub count: u8,

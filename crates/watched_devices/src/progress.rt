@@ -22,13 +22,13 @@ const CLEAR: &str = "\r\x1b[K";
 /// What is said where somebody types, before the first input.
 const GREETING: &str = "type commands, one a line (--help lists them); quit or Ctrl-D leaves";
 
-/// The line that says how far a run is, where standard error is a terminal, once the run takes more than a second.
+/// The line that says how far a run is, if standard error is a terminal, once the run takes more than a second.
 ///
 /// It is short, and the cursor stands at its beginning, so that what somebody else says there covers it.
 #[derive(Drop)]
 pub struct ProgressLine<'r> {
     rt: &'r HostRuntime,
-    // When the run began; none where nothing is said.
+    // When the run began; none if nothing is said.
     began: Option<Instant>,
     // How long after that something may be said again.
     next: Cell<Duration>,
@@ -134,7 +134,12 @@ impl<'r> ProgressLine<'r> {
     }
 
     /// A record is read at this place of the games file.
+    #[inline]
     pub fn read(&self, place: u64) {
+        if self.began.is_none() {
+            // Nothing is said, and a search asks for many records.
+            return;
+        }
         let before = self.progress.get();
         let work = match before.work {
             Work::Opening | Work::Compacting | Work::Mending => before.work,
@@ -160,7 +165,8 @@ impl<'r> ProgressLine<'r> {
         });
     }
 
-    /// A new games file is begun. Where games share records, and a compaction makes it more than twice the old one, that is said.
+    /// Begins a new games file. If games share records, and a compaction makes it more than twice the old one, a
+    /// message tells it.
     pub fn begun(&self) {
         let before = self.progress.get();
         let work = match before.work {
@@ -250,7 +256,7 @@ impl<'r> ProgressLine<'r> {
         }
     }
 
-    // Keeps how far the run is, and says it where it is time to.
+    // Keeps how far the run is, and says it when it is time to.
     fn tell(&self, progress: Progress) {
         self.progress.set(progress);
         let Some(began) = self.began else {

@@ -1,4 +1,5 @@
-use Rattle.mend_base.proofs.EntryLaws.{long-magic, long-read, long-version}
+use Rattle.index_entry.proofs.HeaderLemmas.{header-long}
+use Rattle.mend_base.proofs.EntryLaws.{long-magic, long-version}
 use Rattle.mend_base.proofs.heading.find_header.Goals as goal
 
 pub header_that_fits-requires : goal.header_that_fits-requires
@@ -8,4 +9,4 @@ pub header_that_fits-requires-in-Err-Version : goal.header_that_fits-requires-in
 header_that_fits-requires-in-Err-Version c = record { long = long-version c.args.index.now c.in-Err-Version.version (rw c.in-Err-Version.field-0-is at c.in-Err-Version.ensures.exact) }
 
 pub returns-in-Ok-clause-long : goal.returns-in-Ok-clause-long
-returns-in-Ok-clause-long c = long-read c.args.index.now c.in-Ok.header c.in-Ok.ensures.exact
+returns-in-Ok-clause-long c = header-long c.args.index.now c.in-Ok.header (sym c.in-Ok.ensures.exact)

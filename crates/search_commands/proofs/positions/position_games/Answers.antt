@@ -7,7 +7,6 @@ use Rattle.pos_search.specs.Matching.{firsts_of}
 use Rattle.game_search.specs.Questions.{cost_of}
 use Rattle.pos_search.specs.Searching.{are_read}
 use Rattle.search_commands.proofs.FindingLaws.{search_stands}
-use Rattle.search_commands.proofs.PositionLaws.{price_is}
 use Rattle.search_commands.proofs.positions.position_games.Goals as goal
 use Rattle.search_commands.specs.Searching.{search_position_work}
 use Rattle.sig_index.specs.Costs.{price_by}
@@ -16,6 +15,7 @@ use Rattle.shell_state.proofs.Quietly.{found_sound, held_by, tables_with}
 use Rattle.shell_state.proofs.Served.{on_ok}
 use Rattle.shell_state.specs.Stands.{Holding, Stands, Sound, Asks, AsksAll}
 use Rattle.shell_state.specs.State.{games_of}
+use Rattle.shell_state.proofs.PriceLaws.{price_is}
 
 pub search_games-requires-clause-within : goal.search_games-requires-clause-within
 search_games-requires-clause-within g c =

@@ -19,8 +19,8 @@ use Rattle.sig_index.specs.Games.{extent_in}
 use Rattle.sig_index.proofs.CostLemmas.{asked_all, asked_more, least_more, price_all, price_front, price_more}
 use Rattle.tree_rows.specs.Rows.{IsHit}
 use Rattle.search_commands.proofs.TreeLaws.{no-keys, rows-all, rows-more}
-use Rattle.search_commands.specs.Trees.{tree_hits}
 use Rattle.search_commands.proofs.trees.read_rows.Goals as goal
+use Rattle.shell_state.specs.Meeting.{tree_hits}
 
 pub loop-i-init : goal.loop-i-init
 loop-i-init g c = record {

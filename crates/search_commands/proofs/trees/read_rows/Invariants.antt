@@ -11,7 +11,7 @@ use Rattle.sig_index.specs.Costs.{price_by}
 use Rattle.tree_rows.specs.MoveText.{IsKey}
 use Rattle.tree_rows.specs.Rows.{AreRows, rows_of}
 use Rattle.search_commands.proofs.trees.read_rows.Given as goal
-use Rattle.search_commands.specs.Trees.{tree_hits}
+use Rattle.shell_state.specs.Meeting.{tree_hits}
 
 -- The rows of the games before this one, and their records were asked, no more and no less.
 abbrev pub invariant-loop-i : goal.invariant-loop-i

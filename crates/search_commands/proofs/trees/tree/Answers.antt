@@ -1,9 +1,8 @@
 use Rattle.std.proofs.Common.{◌≤◌, arith, subst, ap, sym, Option, ◌∙◌, refl, List, ℕ}
 use Rattle.game_filter.specs.declared.op.Op.TheVariants.{And}
-use Rattle.search_commands.proofs.PositionLaws.{price_is}
 use Rattle.search_commands.proofs.trees.tree.Goals as goal
 use Rattle.search_commands.proofs.trees.tree.Goals.{in-Ok, in-Err}
-use Rattle.search_commands.specs.Trees.{tree_work, tree_said, tree_of}
+use Rattle.search_commands.specs.Trees.{tree_work, tree_said}
 use Rattle.base_core.specs.Represents.{extents_of, sigs_of}
 use Rattle.base_files.specs.Counters.{raised}
 use Rattle.base_files.specs.Seen.{Seen}
@@ -17,6 +16,8 @@ use Rattle.shell_state.proofs.IndexLaws.{indexes_all}
 use Rattle.shell_state.proofs.Quietly.{held_by, filter_is, tables_with}
 use Rattle.shell_state.specs.Slots.{exactly}
 use Rattle.shell_state.specs.Stands.{Asks, AsksAll, Holding, Stands}
+use Rattle.shell_state.specs.Meeting.{tree_of}
+use Rattle.shell_state.proofs.PriceLaws.{price_is}
 
 pub returns-clause-asks : goal.returns-clause-asks
 returns-clause-asks g c =

@@ -24,7 +24,7 @@ returns-then-set-value-eq1 c =
     let under : c.loop-i.i < c.args.s.now.home.count = omega (arith, c.loop-i-test.true, c.home_count-i-end.ensures.count) in
     let value : c.home_value-value.result ≡ get_or left c.loop-i.i 0 =
     c.home_value-value.ensures.value
-    ∙ ap (λ (k : ℕ). get_or c.args.s.now.home.values k 0) c.from.ensures
+    ∙ c.home_word-word.ensures.values c.loop-i.i (omega (arith, under, c.requires.home.count)) under
     ∙ sym (get_or-take c.args.s.now.home.count c.args.s.now.home.values c.loop-i.i 0 under)
     in
     never_again left c.args.set c.loop-i.i (omega (arith, long, under))
@@ -39,7 +39,7 @@ loop-i-preserved c =
     let under : c.loop-i.i < c.args.s.now.home.count = omega (arith, c.loop-i-test.true, c.home_count-i-end.ensures.count) in
     let value : c.home_value-value.result ≡ get_or left c.loop-i.i 0 =
     c.home_value-value.ensures.value
-    ∙ ap (λ (k : ℕ). get_or c.args.s.now.home.values k 0) c.from.ensures
+    ∙ c.home_word-word.ensures.values c.loop-i.i (omega (arith, under, c.requires.home.count)) under
     ∙ sym (get_or-take c.args.s.now.home.count c.args.s.now.home.values c.loop-i.i 0 under)
     in
     let L : ℕ → Type 0 = λ v. Lacks (take (c.loop-i.i + 1) left) (bit_and c.loop-i.still (bit_not w16 (1 * 2 ^ v % 2 ^ 16))) in

@@ -5,13 +5,13 @@ use Rattle.block_store.specs.Placing.{IsEnd}
 use Rattle.cell_core.specs.Packed.{packed_of}
 use Rattle.game_filter.specs.declared.op.Op.TheVariants.{Ignore}
 use Rattle.pos_index.specs.Hits.{Index, IndexesAll, rows_told}
-use Rattle.search_commands.proofs.PositionLaws.{price_is}
 use Rattle.shell_state.proofs.IndexLaws.{indexes_all}
 use Rattle.shell_state.proofs.Quietly.{filter_is, held_by, tables_with}
 use Rattle.shell_state.specs.Slots.{exactly, slot_at}
 use Rattle.shell_state.specs.Slots.Slot.{shows}
 use Rattle.shell_state.specs.Stands.{Asks, Holding, Sound, Stands, Tables}
 use Rattle.shell_state.specs.State.{State, games_of}
+use Rattle.shell_state.proofs.PriceLaws.{price_is}
 use Rattle.sig_index.specs.declared.pos_query.PosQuery.{PosQuery}
 use Rattle.tree_live.specs.Slots.{Slotted, in_slot}
 use Rattle.view_commands.specs.Views.{showing, shown_hits, watch_line, watch_work}
