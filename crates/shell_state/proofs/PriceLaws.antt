@@ -152,6 +152,6 @@ search-price op query (old ∷ plies) names [] (e ∷ entries) =
 search-price op query (old ∷ plies) names (row ∷ rows) (e ∷ entries) =
     ap (λ (n : ℕ). len_if (looks_at op old && is_read query row (sig_in e)) e.len + n) (search-price op query plies names rows entries)
 
-pub price_is : (op : Op) (query : PosQuery) (plies : List (Option ℕ)) (holding : Holding)
+pub position_price : (op : Op) (query : PosQuery) (plies : List (Option ℕ)) (holding : Holding)
     → price_by (cost_of op) (are_read query (rows_told holding.tables.index) (map sig_in holding.kept.entries)) (map extent_of holding.kept.entries) plies ≡ position_len op query (looks_in holding) plies
-price_is op query plies holding = search-price op query plies holding.kept.names (rows_told holding.tables.index) holding.kept.entries
+position_price op query plies holding = search-price op query plies holding.kept.names (rows_told holding.tables.index) holding.kept.entries

@@ -15,7 +15,7 @@ use Rattle.shell_state.proofs.Quietly.{found_sound, held_by, tables_with}
 use Rattle.shell_state.proofs.Served.{on_ok}
 use Rattle.shell_state.specs.Stands.{Holding, Stands, Sound, Asks, AsksAll}
 use Rattle.shell_state.specs.State.{games_of}
-use Rattle.shell_state.proofs.PriceLaws.{price_is}
+use Rattle.shell_state.proofs.PriceLaws.{position_price}
 
 pub search_games-requires-clause-within : goal.search_games-requires-clause-within
 search_games-requires-clause-within g c =
@@ -48,7 +48,7 @@ returns-clause-asks g c =
     let P : Holding → Type 0 = λ h. Asks h (search_position_work c.args.op c.args.query.now) (g.F.Files.asked c.args.files.now) (g.F.Files.asked c.search_games.new.files) in
     let as-held = ap (λ (i : Option Index). price_by (cost_of c.args.op) (are_read c.args.query.now (rows_told i) (sigs_of c.machine.inside.base)) (extents_of c.machine.inside.base) c.machine.inside.seat.filter) c.as_ref.ensures.value in
     subst P c.machine.view_is
-    (omega (arith, c.search_games.ensures.asks, as-held, price_is c.args.op c.args.query.now c.machine.inside.seat.filter (held_by c.machine.inside.base (tables_with c.machine.inside.index c.machine.inside.slots.watches) c.machine.inside.seat.filter c.machine.inside.seat.saved.items)))
+    (omega (arith, c.search_games.ensures.asks, as-held, position_price c.args.op c.args.query.now c.machine.inside.seat.filter (held_by c.machine.inside.base (tables_with c.machine.inside.index c.machine.inside.slots.watches) c.machine.inside.seat.filter c.machine.inside.seat.saved.items)))
 
 pub returns-clause-asked : goal.returns-clause-asked
 returns-clause-asked g c =
@@ -58,5 +58,5 @@ returns-clause-asked g c =
     let as-held = ap (λ (i : Option Index). price_by (cost_of c.args.op) (are_read c.args.query.now (rows_told i) (sigs_of c.machine.inside.base)) (extents_of c.machine.inside.base) c.machine.inside.seat.filter) c.as_ref.ensures.value in
     subst P c.machine.view_is
     (subst (λ (n : ℕ). OnOk c.search_games.result (raised first n ≤ new))
-    (as-held ∙ price_is c.args.op c.args.query.now c.machine.inside.seat.filter (held_by c.machine.inside.base (tables_with c.machine.inside.index c.machine.inside.slots.watches) c.machine.inside.seat.filter c.machine.inside.seat.saved.items))
+    (as-held ∙ position_price c.args.op c.args.query.now c.machine.inside.seat.filter (held_by c.machine.inside.base (tables_with c.machine.inside.index c.machine.inside.slots.watches) c.machine.inside.seat.filter c.machine.inside.seat.saved.items))
     c.search_games.ensures.asked)

@@ -17,7 +17,7 @@ use Rattle.shell_state.proofs.Quietly.{held_by, filter_is, tables_with}
 use Rattle.shell_state.specs.Slots.{exactly}
 use Rattle.shell_state.specs.Stands.{Asks, AsksAll, Holding, Stands}
 use Rattle.shell_state.specs.Meeting.{tree_of}
-use Rattle.shell_state.proofs.PriceLaws.{price_is}
+use Rattle.shell_state.proofs.PriceLaws.{position_price}
 
 pub returns-clause-asks : goal.returns-clause-asks
 returns-clause-asks g c =
@@ -25,7 +25,7 @@ returns-clause-asks g c =
     let machine = c.machine.inside in
     let as-held = ap (λ (i : Option Index). price_by (cost_of And) (are_read (exactly c.args.board.now c.args.side) (rows_told i) (sigs_of machine.base)) (extents_of machine.base) machine.seat.filter) c.as_ref.ensures.value in
     subst P c.machine.view_is
-    (omega (arith, c.read_tree.ensures.asks, as-held, price_is And (exactly c.args.board.now c.args.side) machine.seat.filter (held_by machine.base (tables_with machine.index machine.slots.watches) machine.seat.filter machine.seat.saved.items)))
+    (omega (arith, c.read_tree.ensures.asks, as-held, position_price And (exactly c.args.board.now c.args.side) machine.seat.filter (held_by machine.base (tables_with machine.index machine.slots.watches) machine.seat.filter machine.seat.saved.items)))
 
 pub returns-clause-serves : goal.returns-clause-serves
 returns-clause-serves g c = λ s st.
@@ -60,7 +60,7 @@ returns-clause-asked g c =
           (on_ok _ w.write_line.result
           (subst P c.machine.view_is
           (subst (λ (n : ℕ). raised first n ≤ new)
-          (as-held ∙ price_is And (exactly c.args.board.now c.args.side) machine.seat.filter (held_by machine.base (tables_with machine.index machine.slots.watches) machine.seat.filter machine.seat.saved.items))
+          (as-held ∙ position_price And (exactly c.args.board.now c.args.side) machine.seat.filter (held_by machine.base (tables_with machine.index machine.slots.watches) machine.seat.filter machine.seat.saved.items))
           w.in-Ok.ensures.asked)))
       | in-Err w ↦ rw (w.result-is) tt
     ]

@@ -11,7 +11,7 @@ use Rattle.shell_state.specs.Slots.{exactly, slot_at}
 use Rattle.shell_state.specs.Slots.Slot.{shows}
 use Rattle.shell_state.specs.Stands.{Asks, Holding, Sound, Stands, Tables}
 use Rattle.shell_state.specs.State.{State, games_of}
-use Rattle.shell_state.proofs.PriceLaws.{price_is}
+use Rattle.shell_state.proofs.PriceLaws.{position_price}
 use Rattle.sig_index.specs.declared.pos_query.PosQuery.{PosQuery}
 use Rattle.tree_live.specs.Slots.{Slotted, in_slot}
 use Rattle.view_commands.specs.Views.{showing, shown_hits, watch_line, watch_work}
@@ -72,7 +72,7 @@ returns-in-Err-clause-asks g c =
       arith,
       c.read_hits.ensures.asks machine.seat.filter fits.filter,
       as-held,
-      price_is Ignore query machine.seat.filter (held_by machine.base (tables_with machine.index machine.slots.watches) machine.seat.filter machine.seat.saved.items),
+      position_price Ignore query machine.seat.filter (held_by machine.base (tables_with machine.index machine.slots.watches) machine.seat.filter machine.seat.saved.items),
     ))
 
 pub returns-in_err-watch-clause-asks : goal.returns-in_err-watch-clause-asks
@@ -87,7 +87,7 @@ returns-in_err-watch-clause-asks g c =
       arith,
       c.read_hits.ensures.asks machine.seat.filter fits.filter,
       as-held,
-      price_is Ignore query machine.seat.filter (held_by machine.base (tables_with machine.index machine.slots.watches) machine.seat.filter machine.seat.saved.items),
+      position_price Ignore query machine.seat.filter (held_by machine.base (tables_with machine.index machine.slots.watches) machine.seat.filter machine.seat.saved.items),
     ))
 
 pub returns-in_err-game_line-2-clause-asks : goal.returns-in_err-game_line-2-clause-asks
@@ -102,7 +102,7 @@ returns-in_err-game_line-2-clause-asks g c =
       arith,
       c.read_hits.ensures.asks machine.seat.filter fits.filter,
       as-held,
-      price_is Ignore query machine.seat.filter (held_by machine.base (tables_with machine.index machine.slots.watches) machine.seat.filter machine.seat.saved.items),
+      position_price Ignore query machine.seat.filter (held_by machine.base (tables_with machine.index machine.slots.watches) machine.seat.filter machine.seat.saved.items),
     ))
 
 pub returns-clause-asks : goal.returns-clause-asks
@@ -117,7 +117,7 @@ returns-clause-asks g c =
       arith,
       c.read_hits.ensures.asks machine.seat.filter fits.filter,
       as-held,
-      price_is Ignore query machine.seat.filter (held_by machine.base (tables_with machine.index machine.slots.watches) machine.seat.filter machine.seat.saved.items),
+      position_price Ignore query machine.seat.filter (held_by machine.base (tables_with machine.index machine.slots.watches) machine.seat.filter machine.seat.saved.items),
     ))
 
 pub returns-clause-line : goal.returns-clause-line
