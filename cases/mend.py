@@ -176,6 +176,36 @@ WAYS = [
     ("24. a rating of no kind", entry_of_one(29, b"\x70\x01"), changed("no such kind of rating", LISTED)),
 ]
 
+# What a comment says that ends a line before its fault, and bases of a whole game and one whose record has a fault: the record, the fault, and the
+# moves that come over with `--fronts`, as `export` writes them; none where the game is left out then too.
+SAID = "{scid_mend: the rest of this line is left out, since it has a fault}"
+SAID_BEHIND = "{said " + SAID[1:]
+NC6, QXF7, NULL = b"\x22", b"\x47\x75", b"\x00"
+QUEENS_GAMBIT = made.D4 + made.D5 + made.C4
+FRONTS = [
+    ("27. a null move in check", CHECKED, "byte 9: a bad move: not legal", f"1. e4 e5 2. Qh5 Nc6 3. Qxf7+ {SAID} *"),
+    ("28. a null move in check in a variation", made.game(E4_E5_QH5 + NC6 + made.G3 + b"\x0d" + QXF7 + NULL + made.G3 + b"\x0e" + made.D5),
+     "byte 11: a bad move: not legal", f"1. e4 e5 2. Qh5 Nc6 3. g3 (3. Qxf7+ {SAID}) 3... d5 *"),
+    ("29. a fault behind a comment, before others", made.game(made.E4 + b"\x0d" + made.D4 + b"\x0c\xbc\x0c\x0e\x0c" + made.D5 + b"\x0c",
+                                                               (b"said", b"lost", b"main", b"last")),
+     "byte 6: a bad move: not legal", f"1. e4 {{main}} (1. d4 {SAID_BEHIND}) 1... d5 {{last}} *"),
+    ("30. a record that ends in a variation in a variation", made.game(made.E4 + b"\x0d" + made.D4 + b"\x0d" + made.C4)[:-1],
+     "byte 7: the record ends too early", f"1. e4 (1. d4 {SAID} (1. c4 {SAID})) *"),
+    ("31. a record that ends in its comments", made.game(made.E4 + b"\x0c" + made.D5 + b"\x0c", (b"one",)), "byte 11: the record ends too early",
+     "1. e4 {one} 1... d5 *"),
+    ("32. bytes behind a record", made.game(QUEENS_GAMBIT) + b"more", "byte 6: bytes behind the record", "1. d4 d5 2. c4 *"),
+    ("33. a tag of no code", b"\xfb" + made.game(made.E4), "byte 0: a code that stands for no tag name", None),
+    ("a second comment", made.game(made.E4 + b"\x0c\x0c" + made.D5, (b"said", b"lost")), "byte 4: a second comment", f"1. e4 {SAID_BEHIND} *"),
+    ("a NAG before the first move", made.game(b"\x0b\x01" + made.E4), "byte 2: a mark out of place", f"{SAID} *"),
+    ("a NAG without its number", made.game(made.E4 + b"\x0b")[:-1], "byte 4: the record ends too early", f"1. e4 {SAID} *"),
+    ("a move without its second byte", made.game(E4_E5_QH5)[:-2], "byte 5: a bad move: a byte is missing", f"1. e4 e5 {SAID} *"),
+    ("a variation that is not ended", made.game(made.E4 + b"\x0d" + made.D4), "byte 5: a mark out of place", f"1. e4 (1. d4 {SAID}) *"),
+    ("the end of a variation in the main line", made.game(made.E4 + b"\x0e" + made.D5), "byte 3: a mark out of place", f"1. e4 {SAID} *"),
+    ("two faults in one line", made.game(made.E4 + b"\x0d\xbc\xbc\x0e" + b"\xbc"), "byte 4: a bad move: not legal", f"1. e4 {SAID} ({SAID}) *"),
+    ("a fault behind tags and a start of its own", made.game(b"\x04\xbc", tags=made.tag(b"Annotator", b"N"), start=b"4k3/8/8/8/8/8/8/R3K2R w - - 0 1"),
+     "byte 47: a bad move: no man has this number", f"1. Kd1 {SAID} *"),
+]
+
 ROWS = [
     ("a base without a fault", ONE, mended([], 1, 1, [LISTED])),
     ("several games, one deleted", MANY, WHOLE),
@@ -220,7 +250,8 @@ def contents(folder):
     return {path.name: path.read_bytes() for path in folder.iterdir()}
 
 
-def a_row(folder, base, lines, last, status, listed):
+def a_row(folder, base, wanted):
+    lines, last, status, listed = wanted
     write(folder, "old", base)
     before = contents(folder)
     got = run(folder, "old", "new")
@@ -241,6 +272,28 @@ def the_games_are_the_same(folder):
     assert opened(folder, "old") == opened(folder, "new")
 
 
+def moves_of(text):
+    """The moves of the last game of an export, on one line."""
+    return " ".join("\n".join(text).rstrip().rpartition("\n\n")[2].split())
+
+
+def a_front(folder, record, fault, moves):
+    """A game whose record has a fault is left out, or comes over with `--fronts` up to it; the game before it comes over in any case."""
+    base = (made.index([made.VIENNA, made.entry(25, len(record), ids=(0, 1, 0, 0, 0))]), made.VIENNA_NAMES, made.VIENNA_RECORD + record)
+    told = f"1: games file: game 1, {fault}\nmended"
+    write(folder, "old", base)
+    before = contents(folder)
+    assert run(folder, "old", "new") == (NOT_ALL, f"left out {told} 1 of 2 games, 0 changed\n", "")
+    got = run(folder, "--fronts", "old", "front")
+    wanted = f"changed {told} 2 of 2 games, 1 changed\n" if moves else f"left out {told} 1 of 2 games, 0 changed\n"
+    assert got == (NOT_ALL, wanted, ""), got
+    assert all(contents(folder)[name] == content for name, content in before.items()), "the old base was changed"
+    code, text, errors = opened(folder, "front")
+    games = 2 if moves else 1
+    assert (code, errors, text[:2]) == (0, "", [f"base {games} games 0 mended", LISTED]), (code, errors, text)
+    assert moves is None or moves_of(text) == moves, moves_of(text)
+
+
 def refusals(folder):
     """What is refused leaves the folder as it was."""
     write(folder, "old", ONE)
@@ -251,7 +304,7 @@ def refusals(folder):
     (folder / "there.sn4").write_bytes(b"mine")
     before = contents(folder)
     in_the_way = "it is in the way, and this run did not make it; it stays as it is"
-    usage = (USAGE, "", "usage: scid_mend OLD NEW\n")
+    usage = (USAGE, "", "usage: scid_mend [--fronts] OLD NEW\n")
     for words, wanted in [
         (("magic", "new"), (BAD_INDEX, "", "bad base: index file: not an index\n")),
         (("older", "new"), (BAD_INDEX, "", "bad base: index file: an index of version 300\n")),
@@ -264,6 +317,9 @@ def refusals(folder):
         (("old", "new", "more"), usage),
         (("old", ""), usage),
         (("--strict", "old"), usage),
+        (("--fronts", "old"), usage),
+        (("--fronts", "old", "new", "more"), usage),
+        (("old", "--fronts", "new"), usage),
     ]:
         got = run(folder, *words)
         assert got == wanted, (words, got)
@@ -272,7 +328,7 @@ def refusals(folder):
     assert status == FILES_FAULT and errors.startswith("absent.si4: ") and contents(folder) == before, errors
     assert run(folder, "--version") == (0, "scid_mend 0.1.0\n", "")
     status, text, errors = run(folder, "--help")
-    assert (status, errors) == (0, "") and text.startswith("usage: scid_mend OLD NEW\n")
+    assert (status, errors) == (0, "") and text.startswith("usage: scid_mend [--fronts] OLD NEW\n")
 
 
 def a_compaction_that_was_broken_off(folder):
@@ -356,13 +412,15 @@ def a_full_output(folder):
 
 
 def main():
-    for title, base, (lines, last, status, listed) in WAYS + ROWS:
+    rows = [(title, a_row, row) for title, *row in WAYS + ROWS] + [(title, a_front, row) for title, *row in FRONTS]
+    for title, shows, row in rows:
         with tempfile.TemporaryDirectory() as folder:
             try:
-                a_row(Path(folder), base, lines, last, status, listed)
+                shows(Path(folder), *row)
             except AssertionError as wrong:
                 raise AssertionError(title) from wrong
-    print(f"{len(WAYS)} ways of spoiling a base, and {len(ROWS)} bases beside: ok")
+    ways = sum(title[0].isdigit() for title, *_ in rows)
+    print(f"{ways} ways of spoiling a base, and {len(rows) - ways} bases beside: ok")
     for show in (the_games_are_the_same, refusals, a_compaction_that_was_broken_off, absent_files, left_over_files, a_full_output):
         with tempfile.TemporaryDirectory() as folder:
             show(Path(folder))

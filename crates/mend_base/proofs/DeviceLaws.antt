@@ -120,3 +120,7 @@ on-err-any Q (Err e) is = is
 pub if-ok-so : {A E : Type 0} (P : Type 0) (Q R : A → Type 0) (r : Result A E) → ((x : A) → P → Q x → R x) → OnOk r P → IfOk r Q → IfOk r R
 if-ok-so P Q R (Ok x) f is at = f x is at
 if-ok-so P Q R (Err e) f is at = tt
+
+pub if-ok-weaker : {A E : Type 0} (Q R : A → Type 0) (r : Result A E) → ((x : A) → Q x → R x) → IfOk r Q → IfOk r R
+if-ok-weaker Q R (Ok x) f at = f x at
+if-ok-weaker Q R (Err e) f at = tt

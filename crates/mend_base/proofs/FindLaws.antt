@@ -1,8 +1,7 @@
 -- What was found of a game, where the games file is told.
-use Rattle.std.proofs.Common.{◌≡◌, ◌≤◌, ◌+◌, ℕ, List, length, take, Option, None, Some, Ok, Err, IfSome, IsTrue, refl, sym, ap, ◌∙◌, subst}
+use Rattle.std.proofs.Common.{◌≡◌, ◌≤◌, ◌+◌, ℕ, List, length, take, drop, take_all, Option, None, Some, Ok, Err, Result, IfSome, IsTrue, refl, sym, ap, ◌∙◌, subst, arith}
 use Rattle.base_files.specs.Extents.{record_in}
 use Rattle.base_files.specs.Told.{Tells, TellsLength, part_told}
-use Rattle.game_codec.specs.Fault.{IsRecordFault}
 use Rattle.game_codec.specs.RecordAnswer.{record_answer}
 use Rattle.game_codec.specs.declared.fault.RecordFault.{RecordFault}
 use Rattle.game_tree.specs.Date.{keeps_rule}
@@ -15,6 +14,7 @@ use Rattle.index_entry.specs.declared.entry.Entry.{Entry}
 use Rattle.index_entry.specs.declared.fault.EntryFault.{EntryFault}
 use Rattle.name_base.specs.NameLists.{NameLists}
 use Rattle.name_base.specs.PartNames.{PartLists, filled_names}
+use Rattle.name_base.specs.Reading.{◌>>=◌}
 use Rattle.base_core.specs.Base.{Held}
 use Rattle.base_core.specs.Entries.{Says, extent_of}
 use Rattle.base_core.specs.FirstFault.{place_fault}
@@ -26,28 +26,50 @@ use Rattle.base_core.specs.declared.fault.IdField.{IdField}
 use Rattle.base_core.specs.declared.fault.PlaceWhat.{PlaceWhat}
 use Rattle.base_core.proofs.CheckLaws.{ends_within}
 use Rattle.base_core.proofs.KeptLaws.{settled_kept}
+use Rattle.base_core.proofs.Results.{ok_err}
 use Rattle.mend_base.specs.Fields.{known_in, without_faults}
-use Rattle.mend_base.specs.Finding.{Finds, IsFoundIn, KeepsWhole, entry_cost}
-use Rattle.mend_base.specs.Places.{Place, change_by, change_in, held_by, missing_in, place_of}
+use Rattle.mend_base.specs.Finding.{Finds, FindsLeft, IsSaved, KeepsWhole, entry_cost}
+use Rattle.mend_base.specs.Fronts.{Saved, saved_in, steps_of}
+use Rattle.mend_base.specs.Places.{Found, Place, answered_place, change_by, change_in, held_by, missing_in, place_of, placed, saved_place}
 use Rattle.mend_base.specs.declared.finding.Find.{Find}
 use Rattle.mend_base.specs.declared.finding.Find.TheVariants as find
+use Rattle.mend_base.specs.declared.fronts.Faulty.{Faulty}
+use Rattle.mend_base.specs.declared.fronts.Faulty.TheVariants as faulty
 use Rattle.mend_base.proofs.FieldLaws.{known-sound}
+use Rattle.mend_base.proofs.FrontLaws.{no-step}
 
 -- ---- the places.
 
-module _ (names : PartLists) (games : List ℕ) (game : ℕ) (bytes : List ℕ) where
-  pub unplaced_place : (what : PlaceWhat) → place_fault (length games) (known_in bytes) ≡ Some what → place_of names games game bytes ≡ Err (PlaceFault game what)
+module _ (faulty : Faulty) (names : PartLists) (games : List ℕ) (game : ℕ) (bytes : List ℕ) where
+  pub unplaced_place : (what : PlaceWhat) → place_fault (length games) (known_in bytes) ≡ Some what → place_of faulty names games game bytes ≡ Err (PlaceFault game what)
   unfolding place_of
   unplaced_place what is = rw is refl
 
-  pub broken_place : (what : RecordFault) → place_fault (length games) (known_in bytes) ≡ None → record_answer (record_in games (extent_of (known_in bytes))) ≡ Err what → place_of names games game bytes ≡ Err (Packed game what)
+  pub broken_place : (what : RecordFault) (saved : Option Saved) → place_fault (length games) (known_in bytes) ≡ None → record_answer (record_in games (extent_of (known_in bytes))) ≡ Err what →
+      saved_in (steps_of faulty) (record_in games (extent_of (known_in bytes))) (Err what) ≡ saved → place_of faulty names games game bytes ≡ saved_place names game (known_in bytes) what saved
   unfolding place_of
-  broken_place what is answer = rw (is, answer) refl
+  broken_place what saved is answer left = rw (is, answer, left) refl
 
   pub read-place : (tags : List Tag) (tree : GameTree) → place_fault (length games) (known_in bytes) ≡ None → record_answer (record_in games (extent_of (known_in bytes))) ≡ Ok (tags, tree) →
-      place_of names games game bytes ≡ Ok (record { held = held_by (filled_names names) (known_in bytes) (tags, tree); change = change_in names game bytes })
+      place_of faulty names games game bytes ≡ Ok (record { held = held_by (filled_names names) (known_in bytes) (tags, tree); change = change_in names game bytes })
   unfolding place_of
   read-place tags tree is answer = rw (is, answer) refl
+
+-- A game that comes over where faulty records are left out comes over as the same where they are not.
+answered_same : (names : PartLists) (game : ℕ) (packed : List ℕ) (e : Entry) (bytes : List ℕ) (answer : Result (List Tag × GameTree) RecordFault) (found : Found) → answered_place faulty.LeftOut names game packed e bytes answer ≡ Ok found →
+    answered_place faulty.Fronts names game packed e bytes answer ≡ Ok found
+answered_same names game packed e bytes (Ok read) found is = is
+answered_same names game packed e bytes (Err fault) found is =
+    absurd (ok_err _ found (Packed game fault) is (ap (saved_place names game e fault) (no-step bytes fault)))
+
+pub place-same : (names : PartLists) (games : List ℕ) (game : ℕ) (packed : List ℕ) (found : Found) → place_of faulty.LeftOut names games game packed ≡ Ok found → place_of faulty.Fronts names games game packed ≡ Ok found
+unfolding place_of
+place-same names games game packed found is = by (placed (length games) game (known_in packed)) is
+  where
+    by : (p : Result Entry BaseFault) → (p >>= λ e. answered_place faulty.LeftOut names game packed e (record_in games (extent_of e)) (record_answer (record_in games (extent_of e)))) ≡ Ok found →
+        (p >>= λ e. answered_place faulty.Fronts names game packed e (record_in games (extent_of e)) (record_answer (record_in games (extent_of e)))) ≡ Ok found
+    by (Ok e) is = answered_same names game packed e (record_in games (extent_of e)) (record_answer (record_in games (extent_of e))) found is
+    by (Err fault) is = absurd (ok_err _ found fault is refl)
 
 -- What an entry says is the game of it and of its record.
 pub held-by : (names : NameLists) (games : List ℕ) (e : Entry) (held : Held) (says : Says names games e held) → held_by names e (says.tags, held.game) ≡ held
@@ -55,70 +77,120 @@ held-by names games e held says =
     let made : Head → ℕ → Held = λ h n. record { head = h; game = held.game; len = n } in
     ap (λ (h : Head). made h e.len) (sym says.head) ∙ ap (λ (n : ℕ). made held.head n) (sym says.len)
 
--- ---- a game that is whole.
-
--- The entry that is kept keeps the game that its record says.
-keeps_it : (names : NameLists) (games : List ℕ) (e kept : Entry) (mended : IsMended (record_in games (extent_of e)) e kept) → e.offset + e.len ≤ length games → IsTrue (keeps_rule e.event_date e.date) →
-    Keeps names games kept (held_by names e (mended.1.1.0.tags, mended.1.1.0.tree))
-unfolding kept_entry
-keeps_it names games e kept mended within rule =
-    let signed = mended.1.1.0 in
-    let held : Held = held_by names e (signed.tags, signed.tree) in
-    let K : Entry → Type 0 = λ x. Keeps names games x held in
-    let says : Says names games (kept_entry e mended.0 mended.1.0) held =
-    record { tags = signed.tags; within = within; read = signed.read.answer; head = sym (settled_kept names e mended.0 mended.1.0 signed.tags rule (signed.dated names)); len = refl } in
-    subst K (sym mended.1.1.1) (record { says = says; event_date = signed.dated names; signed = signed.signed })
-
-whole_so : (index : List ℕ) (names : PartLists) (games : List ℕ) (game : ℕ) (e kept : Entry) (change : Option BaseFault) → e ≡ known_in (entry_bytes index game) → place_fault (length games) e ≡ None →
-    change ≡ change_in names game (entry_bytes index game) → IsMended (record_in games (extent_of e)) e kept → KeepsWhole index names games game kept change
-whole_so index names games game e kept change is fits first mended =
-    let signed = mended.1.1.0 in
-    let bytes = entry_bytes index game in
-    let P : Entry → Type 0 = λ x. place_fault (length games) x ≡ None in
-    let A : Entry → Type 0 = λ x. record_answer (record_in games (extent_of x)) ≡ Ok (signed.tags, signed.tree) in
-    let within = ends_within (length games) e fits in
-    let made : Entry → Option BaseFault → Place = λ x c. Ok (record { held = held_by (filled_names names) x (signed.tags, signed.tree); change = c }) in
-    record {
-      held = held_by (filled_names names) e (signed.tags, signed.tree);
-      place = read-place names games game bytes signed.tags signed.tree (subst P is fits) (subst A is signed.read.answer)
-          ∙ (ap (λ (x : Entry). made x (change_in names game bytes)) (sym is) ∙ ap (λ (c : Option BaseFault). made e c) (sym first));
-      keeps = keeps_it (filled_names names) games e kept mended within (subst (λ (x : Entry). IsTrue (keeps_rule x.event_date x.date)) (sym is) (known-sound bytes).event_rule);
-    }
-
-pub whole-place : (told : Option (List ℕ)) (index : List ℕ) (names : PartLists) (end game : ℕ) (read : List ℕ) (e kept : Entry) (change : Option BaseFault) → TellsLength told end → Tells (part_told told e.offset e.len) read →
-    e ≡ known_in (entry_bytes index game) → place_fault end e ≡ None → change ≡ change_in names game (entry_bytes index game) → IsMended read e kept → IfSome told (λ games. KeepsWhole index names games game kept change)
-whole-place None index names end game read e kept change long tells is fits first mended = tt
-whole-place (Some games) index names end game read e kept change long tells is fits first mended =
-    let P : ℕ → Type 0 = λ n. place_fault n e ≡ None in
-    let M : List ℕ → Type 0 = λ bytes. IsMended bytes e kept in
-    whole_so index names games game e kept change is (subst P long fits) first (subst M tells mended)
-
--- ---- a game that has a fault.
-
-pub broken-place : (told : Option (List ℕ)) (index : List ℕ) (names : PartLists) (end game : ℕ) (read : List ℕ) (e : Entry) (fault : BaseFault) → TellsLength told end → Tells (part_told told e.offset e.len) read →
-    e ≡ known_in (entry_bytes index game) → place_fault end e ≡ None → ((what : RecordFault) × (IsRecordFault read what × (fault ≡ Packed game what))) →
-    IfSome told (λ games. place_of names games game (entry_bytes index game) ≡ Err fault)
-broken-place None index names end game read e fault long tells is fits broken = tt
-broken-place (Some games) index names end game read e fault long tells is fits broken =
-    let P : ℕ → Type 0 = λ n. place_fault n e ≡ None in
-    let Q : Entry → Type 0 = λ x. place_fault (length games) x ≡ None in
-    let A : List ℕ → Type 0 = λ bytes. record_answer bytes ≡ Err broken.0 in
-    let B : Entry → Type 0 = λ x. record_answer (record_in games (extent_of x)) ≡ Err broken.0 in
-    broken_place names games game (entry_bytes index game) broken.0 (subst Q is (subst P long fits)) (subst B is (subst A tells broken.1.0.answer)) ∙ ap Err (sym broken.1.1)
-
-pub unread-place : (told : Option (List ℕ)) (index : List ℕ) (names : PartLists) (end game : ℕ) (e : Entry) (what : PlaceWhat) → TellsLength told end → e ≡ known_in (entry_bytes index game) → Some what ≡ place_fault end e →
-    IfSome told (λ games. place_of names games game (entry_bytes index game) ≡ Err (PlaceFault game what))
-unread-place None index names end game e what long is first = tt
-unread-place (Some games) index names end game e what long is first =
-    let P : ℕ → Type 0 = λ n. place_fault n e ≡ Some what in
-    let Q : Entry → Type 0 = λ x. place_fault (length games) x ≡ Some what in
-    unplaced_place names games game (entry_bytes index game) what (subst Q is (subst P long (sym first)))
-
 -- ---- the record of a mended entry.
 
 pub mended-place : (bytes : List ℕ) (e kept : Entry) → IsMended bytes e kept → (kept.offset ≡ e.offset) × (kept.len ≡ e.len)
 unfolding kept_entry
 mended-place bytes e kept mended = (ap (λ (x : Entry). x.offset) mended.1.1.1, ap (λ (x : Entry). x.len) mended.1.1.1)
+
+same_record : (file bytes : List ℕ) (e kept : Entry) → IsMended bytes e kept → record_in file (extent_of e) ≡ record_in file (extent_of kept)
+same_record file bytes e kept mended =
+    let placed = mended-place bytes e kept mended in
+    ap (λ (n : ℕ). take n (drop e.offset file)) (sym placed.1) ∙ ap (λ (n : ℕ). take kept.len (drop n file)) (sym placed.0)
+
+-- The entry that is kept keeps the game that its record says.
+keeps_it : (names : NameLists) (file bytes : List ℕ) (e kept : Entry) (mended : IsMended bytes e kept) → record_in file (extent_of e) ≡ bytes → e.offset + e.len ≤ length file → IsTrue (keeps_rule e.event_date e.date) →
+    Keeps names file kept (held_by names e (mended.1.1.0.tags, mended.1.1.0.tree))
+unfolding kept_entry
+keeps_it names file bytes e kept mended same within rule =
+    let signed = mended.1.1.0 in
+    let held : Held = held_by names e (signed.tags, signed.tree) in
+    let K : Entry → Type 0 = λ x. Keeps names file x held in
+    let says : Says names file (kept_entry e mended.0 mended.1.0) held =
+    record { tags = signed.tags; within = within; read = ap record_answer same ∙ signed.read.answer; head = sym (settled_kept names e mended.0 mended.1.0 signed.tags rule (signed.dated names)); len = refl } in
+    subst K (sym mended.1.1.1) (record { says = says; event_date = signed.dated names; signed = signed.signed })
+
+rule_of : (bytes : List ℕ) (e : Entry) → e ≡ known_in bytes → IsTrue (keeps_rule e.event_date e.date)
+rule_of bytes e is = subst (λ (x : Entry). IsTrue (keeps_rule x.event_date x.date)) (sym is) (known-sound bytes).event_rule
+
+-- ---- a game that is whole.
+
+whole_so : (faulty : Faulty) (index : List ℕ) (names : PartLists) (games : List ℕ) (game : ℕ) (e kept : Entry) (change : Option BaseFault) → e ≡ known_in (entry_bytes index game) → place_fault (length games) e ≡ None →
+    change ≡ change_in names game (entry_bytes index game) → IsMended (record_in games (extent_of e)) e kept → KeepsWhole faulty index names games game (record_in games (extent_of kept)) kept change
+whole_so faulty index names games game e kept change is fits first mended =
+    let signed = mended.1.1.0 in
+    let bytes = entry_bytes index game in
+    let P : Entry → Type 0 = λ x. place_fault (length games) x ≡ None in
+    let A : Entry → Type 0 = λ x. record_answer (record_in games (extent_of x)) ≡ Ok (signed.tags, signed.tree) in
+    let made : Entry → Option BaseFault → Place = λ x c. Ok (record { held = held_by (filled_names names) x (signed.tags, signed.tree); change = c }) in
+    record {
+      held = held_by (filled_names names) e (signed.tags, signed.tree);
+      place = read-place faulty names games game bytes signed.tags signed.tree (subst P is fits) (subst A is signed.read.answer)
+          ∙ (ap (λ (x : Entry). made x (change_in names game bytes)) (sym is) ∙ ap (λ (c : Option BaseFault). made e c) (sym first));
+      file = games;
+      stands = refl;
+      keeps = keeps_it (filled_names names) games (record_in games (extent_of e)) e kept mended refl (ends_within (length games) e fits) (rule_of bytes e is);
+    }
+
+pub whole-found : (told : Option (List ℕ)) (faulty : Faulty) (index : List ℕ) (names : PartLists) (end game : ℕ) (buf : List ℕ) (e kept : Entry) (change : Option BaseFault) → TellsLength told end →
+    Tells (part_told told e.offset e.len) (take e.len buf) → e ≡ known_in (entry_bytes index game) → None ≡ place_fault end e → change ≡ change_in names game (entry_bytes index game) → IsMended (take e.len buf) e kept →
+    Finds faulty index names told game buf (find.Whole kept change)
+whole-found None faulty index names end game buf e kept change long tells is fits first mended = tt
+whole-found (Some games) faulty index names end game buf e kept change long tells is fits first mended =
+    let P : ℕ → Type 0 = λ n. place_fault n e ≡ None in
+    let M : List ℕ → Type 0 = λ bytes. IsMended bytes e kept in
+    let K : List ℕ → Type 0 = λ bytes. KeepsWhole faulty index names games game bytes kept change in
+    let front : take kept.len buf ≡ record_in games (extent_of kept) =
+    ap (λ (n : ℕ). take n buf) (mended-place (take e.len buf) e kept mended).1 ∙ (tells ∙ same_record games (take e.len buf) e kept mended) in
+    subst K (sym front) (whole_so faulty index names games game e kept change is (subst P long (sym fits)) first (subst M tells mended))
+
+-- ---- a game of which a part is saved.
+
+left_so : (faulty : Faulty) (index : List ℕ) (names : PartLists) (games : List ℕ) (game : ℕ) (e kept : Entry) (what : RecordFault) (left : List ℕ) → e ≡ known_in (entry_bytes index game) → place_fault (length games) e ≡ None →
+    record_answer (record_in games (extent_of e)) ≡ Err what → IsSaved (steps_of faulty) e (record_in games (extent_of e)) what left kept → KeepsWhole faulty index names games game left kept (Some (Packed game what))
+left_so faulty index names games game e kept what left is fits answer saved =
+    let signed = saved.mended.1.1.0 in
+    let bytes = entry_bytes index game in
+    let found : Option Saved = Some (record { bytes = left; read = (signed.tags, signed.tree) }) in
+    let all : take (length left) left ≡ left = take_all (length left) left (omega arith) in
+    let P : Entry → Type 0 = λ x. place_fault (length games) x ≡ None in
+    let A : Entry → Type 0 = λ x. record_answer (record_in games (extent_of x)) ≡ Err what in
+    let S : Entry → Type 0 = λ x. saved_in (steps_of faulty) (record_in games (extent_of x)) (Err what) ≡ found in
+    record {
+      held = held_by (filled_names names) (record e { offset = 0; len = length left }) (signed.tags, signed.tree);
+      place = broken_place faulty names games game bytes what found (subst P is fits) (subst A is answer) (subst S is saved.saved) ∙ ap (λ (x : Entry). saved_place names game x what found) (sym is);
+      file = left;
+      stands = sym all ∙ same_record left left (record e { offset = 0; len = length left }) kept saved.mended;
+      keeps = keeps_it (filled_names names) left left (record e { offset = 0; len = length left }) kept saved.mended all (omega arith) (rule_of bytes e is);
+    }
+
+nothing_so : (faulty : Faulty) (index : List ℕ) (names : PartLists) (games : List ℕ) (game : ℕ) (e : Entry) (what : RecordFault) → e ≡ known_in (entry_bytes index game) → place_fault (length games) e ≡ None →
+    record_answer (record_in games (extent_of e)) ≡ Err what → saved_in (steps_of faulty) (record_in games (extent_of e)) (Err what) ≡ None → place_of faulty names games game (entry_bytes index game) ≡ Err (Packed game what)
+nothing_so faulty index names games game e what is fits answer none =
+    let P : Entry → Type 0 = λ x. place_fault (length games) x ≡ None in
+    let A : Entry → Type 0 = λ x. record_answer (record_in games (extent_of x)) ≡ Err what in
+    let S : Entry → Type 0 = λ x. saved_in (steps_of faulty) (record_in games (extent_of x)) (Err what) ≡ None in
+    broken_place faulty names games game (entry_bytes index game) what None (subst P is fits) (subst A is answer) (subst S is none)
+
+left_found : (faulty : Faulty) (index : List ℕ) (names : PartLists) (games : List ℕ) (game : ℕ) (buf read : List ℕ) (e : Entry) (what : RecordFault) (result : Find) → read ≡ record_in games (extent_of e) →
+    e ≡ known_in (entry_bytes index game) → place_fault (length games) e ≡ None → record_answer read ≡ Err what → FindsLeft faulty game e read what buf result → Finds faulty index names (Some games) game buf result
+left_found faulty index names games game buf read e what (find.Whole kept change) tells is fits answer found =
+    let A : List ℕ → Type 0 = λ bytes. record_answer bytes ≡ Err what in
+    let S : List ℕ → Type 0 = λ bytes. IsSaved (steps_of faulty) e bytes what (take kept.len buf) kept in
+    let K : Option BaseFault → Type 0 = λ c. KeepsWhole faulty index names games game (take kept.len buf) kept c in
+    subst K (sym found.change_is) (left_so faulty index names games game e kept what (take kept.len buf) is fits (subst A tells answer) (subst S tells found.is_saved))
+left_found faulty index names games game buf read e what (find.Broken other) tells is fits answer found =
+    let A : List ℕ → Type 0 = λ bytes. record_answer bytes ≡ Err what in
+    let S : List ℕ → Type 0 = λ bytes. saved_in (steps_of faulty) bytes (Err what) ≡ None in
+    nothing_so faulty index names games game e what is fits (subst A tells answer) (subst S tells found.none_saved) ∙ ap Err (sym found.fault_is)
+
+pub left-found : (told : Option (List ℕ)) (faulty : Faulty) (index : List ℕ) (names : PartLists) (end game : ℕ) (buf read : List ℕ) (e : Entry) (what : RecordFault) (result : Find) → TellsLength told end →
+    Tells (part_told told e.offset e.len) read → e ≡ known_in (entry_bytes index game) → None ≡ place_fault end e → record_answer read ≡ Err what → FindsLeft faulty game e read what buf result → Finds faulty index names told game buf result
+left-found None faulty index names end game buf read e what (find.Whole kept change) long tells is fits answer found = tt
+left-found None faulty index names end game buf read e what (find.Broken other) long tells is fits answer found = tt
+left-found (Some games) faulty index names end game buf read e what result long tells is fits answer found =
+    let P : ℕ → Type 0 = λ n. place_fault n e ≡ None in
+    left_found faulty index names games game buf read e what result tells is (subst P long (sym fits)) answer found
+
+-- ---- a game whose record stands nowhere.
+
+pub unread-place : (told : Option (List ℕ)) (faulty : Faulty) (index : List ℕ) (names : PartLists) (end game : ℕ) (e : Entry) (what : PlaceWhat) → TellsLength told end → e ≡ known_in (entry_bytes index game) → Some what ≡ place_fault end e →
+    IfSome told (λ games. place_of faulty names games game (entry_bytes index game) ≡ Err (PlaceFault game what))
+unread-place None faulty index names end game e what long is first = tt
+unread-place (Some games) faulty index names end game e what long is first =
+    let P : ℕ → Type 0 = λ n. place_fault n e ≡ Some what in
+    let Q : Entry → Type 0 = λ x. place_fault (length games) x ≡ Some what in
+    unplaced_place faulty names games game (entry_bytes index game) what (subst Q is (subst P long (sym first)))
 
 -- ---- what the functions answer.
 
@@ -140,13 +212,3 @@ cost-there index game e is = ap (λ (x : Entry). x.len) is
 
 pub ends-in : (end : ℕ) (e : Entry) → None ≡ place_fault end e → e.offset + e.len ≤ end
 ends-in end e is = ends_within end e (sym is)
-
-pub found-so : (told : Option (List ℕ)) (index : List ℕ) (names : PartLists) (end game : ℕ) (buf : List ℕ) (e : Entry) (change : Option BaseFault) (result : Find) → TellsLength told end →
-    Tells (part_told told e.offset e.len) (take e.len buf) → e ≡ known_in (entry_bytes index game) → None ≡ place_fault end e → change ≡ change_in names game (entry_bytes index game) → IsFoundIn game e change (take e.len buf) result →
-    Finds index names told game buf result
-found-so told index names end game buf e change (find.Whole kept other) long tells is fits first found =
-    let placed = mended-place (take e.len buf) e kept found.0 in
-    let O : ℕ → Type 0 = λ n. Tells (part_told told n e.len) (take e.len buf) in
-    let L : ℕ → Type 0 = λ n. Tells (part_told told kept.offset n) (take n buf) in
-    (subst L (sym placed.1) (subst O (sym placed.0) tells), whole-place told index names end game (take e.len buf) e kept other long tells is (sym fits) (found.1 ∙ first) found.0)
-found-so told index names end game buf e change (find.Broken fault) long tells is fits first found = broken-place told index names end game (take e.len buf) e fault long tells is (sym fits) found

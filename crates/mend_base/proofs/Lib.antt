@@ -3,6 +3,7 @@ pub mod EntryLaws
 pub mod FieldLaws
 pub mod NoteLaws
 pub mod PlaceLaws
+pub mod FrontLaws
 pub mod FindLaws
 pub mod MendLaws
 pub mod WholeLaws

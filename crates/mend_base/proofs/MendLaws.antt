@@ -4,7 +4,7 @@ use Rattle.std.proofs.lemmas.List.{length_push}
 use Rattle.std.proofs.lemmas.Option.{none-some}
 use Rattle.base_files.specs.Extents.{record_in}
 use Rattle.base_files.specs.Seen.{FreshAlone, Seen, committed, told_instead}
-use Rattle.base_files.specs.Told.{Tells, adds, part_told}
+use Rattle.base_files.specs.Told.{Tells, adds}
 use Rattle.block_store.specs.Placing.{end_after, padded}
 use Rattle.game_tree.specs.declared.head.Head.{Head}
 use Rattle.index_entry.specs.Index.{entry_bytes}
@@ -33,6 +33,7 @@ use Rattle.mend_base.specs.Notes.{Began, all_notes, notes_from, notes_of_head, n
 use Rattle.mend_base.specs.Places.{Found, games_of, mended_base, place_of, places_of}
 use Rattle.mend_base.specs.declared.fault.MendError.{MendError}
 use Rattle.mend_base.specs.declared.fault.MendError.TheVariants as error
+use Rattle.mend_base.specs.declared.fronts.Faulty.{Faulty}
 use Rattle.mend_base.specs.declared.mending.Mended.{Mended}
 use Rattle.mend_base.specs.declared.report.Note.{Note}
 use Rattle.mend_base.proofs.NoteLaws.{all-told, began-behind, began-front, began-none, no-more-notes}
@@ -45,9 +46,9 @@ unfolding only
 none-stand header None = tt
 none-stand header (Some games) = (refl, record { header = refl; names = refl; end = refl; count = refl; each = λ i e held at_e at_held. absurd (none-some e at_e) })
 
-has-none : (header : IndexHead) (index : List ℕ) (names : PartLists) (games : List ℕ) (told : Option (List Note)) (seen : Option (List ℕ)) → HasMended 0 header index names games told told 0 (begun header) (told_instead [] seen)
+has-none : (header : IndexHead) (faulty : Faulty) (index : List ℕ) (names : PartLists) (games : List ℕ) (told : Option (List Note)) (seen : Option (List ℕ)) → HasMended 0 header faulty index names games told told 0 (begun header) (told_instead [] seen)
 unfolding only
-has-none header index names games told seen = record {
+has-none header faulty index names games told seen = record {
   notes = sym (no-more-notes told);
   came = refl;
   changed_are = refl;
@@ -58,15 +59,15 @@ has-none header index names games told seen = record {
 
 -- ---- a game that is left out.
 
-has-left-out : (game : ℕ) (index : List ℕ) (names : PartLists) (games : List ℕ) (told now : Option (List Note)) (draft : Kept) (file : Option (List ℕ)) (fault : BaseFault) →
-    place_of names games game (entry_bytes index game) ≡ Err fault → now ≡ with_notes told (notes_of_place game (Err fault)) → MendsNext game index names games told now 0 draft draft file file
-has-left-out game index names games told now draft file fault place tells = λ header before changed has.
-    let same : games_of (places_of index names games game) ≡ games_of (places_of index names games (game + 1)) = sym (games-same index names games game fault place) in
+has-left-out : (game : ℕ) (faulty : Faulty) (index : List ℕ) (names : PartLists) (games : List ℕ) (told now : Option (List Note)) (draft : Kept) (file : Option (List ℕ)) (fault : BaseFault) →
+    place_of faulty names games game (entry_bytes index game) ≡ Err fault → now ≡ with_notes told (notes_of_place game (Err fault)) → MendsNext game faulty index names games told now 0 draft draft file file
+has-left-out game faulty index names games told now draft file fault place tells = λ header before changed has.
+    let same : games_of (places_of faulty index names games game) ≡ games_of (places_of faulty index names games (game + 1)) = sym (games-same faulty index names games game fault place) in
     let S : List Held → Type 0 = λ gs. IfSome file (λ f. (length f ≡ draft.end) × Represents draft f (mended_base header gs)) in
     record {
-      notes = told-more index names games before told now game (Err fault) place has.notes tells;
+      notes = told-more faulty index names games before told now game (Err fault) place has.notes tells;
       came = has.came ∙ ap (λ (gs : List Held). length gs) same;
-      changed_are = add-zero changed ∙ (has.changed_are ∙ sym (changed-same index names games game fault place));
+      changed_are = add-zero changed ∙ (has.changed_are ∙ sym (changed-same faulty index names games game fault place));
       end = has.end ∙ ap (λ (gs : List Held). (mended_base header gs).end) same;
       names_are = has.names_are ∙ ap (λ (gs : List Held). (mended_base header gs).names) same;
       stands = subst S same has.stands;
@@ -77,23 +78,23 @@ has-left-out game index names games told now draft file fault place tells = λ h
 names_kept : (names : NameLists) (games : List ℕ) (kept : Entry) (held : Held) (old : NameLists) → Keeps names games kept held → names_with (head_of names kept []) old ≡ names_with held.head old
 names_kept names games kept held old keeps = sym (names-settled names old kept keeps.says.tags) ∙ ap (λ (h : Head). names_with h old) (sym keeps.says.head)
 
-module _ (game : ℕ) (index : List ℕ) (names : PartLists) (games : List ℕ) (header : IndexHead) (kept : Entry) (change : Option BaseFault) (whole : KeepsWhole index names games game kept change) where
+module _ (game : ℕ) (faulty : Faulty) (index : List ℕ) (names : PartLists) (games : List ℕ) (header : IndexHead) (bytes : List ℕ) (kept : Entry) (change : Option BaseFault) (whole : KeepsWhole faulty index names games game bytes kept change) where
   abbrev so_far : Base
-  so_far = mended_base header (games_of (places_of index names games game))
+  so_far = mended_base header (games_of (places_of faulty index names games game))
 
   abbrev next : Base
-  next = mended_base header (games_of (places_of index names games (game + 1)))
+  next = mended_base header (games_of (places_of faulty index names games (game + 1)))
 
   -- The base of the games so far with this one.
   with_held : with_game whole.held so_far ≡ next
   with_held =
-      only-more (games_of (places_of index names games game)) whole.held (record empty_base { header = header })
-      ∙ ap (λ (gs : List Held). mended_base header gs) (sym (games-more index names games game (record { held = whole.held; change = change }) whole.place))
+      only-more (games_of (places_of faulty index names games game)) whole.held (record empty_base { header = header })
+      ∙ ap (λ (gs : List Held). mended_base header gs) (sym (games-more faulty index names games game (record { held = whole.held; change = change }) whole.place))
 
   -- Its names and its end.
   pub next-names : (draft : Kept) → draft.names ≡ so_far.names → names_with (head_of (filled_names names) kept []) draft.names ≡ next.names
   next-names draft are =
-      names_kept (filled_names names) games kept whole.held draft.names whole.keeps
+      names_kept (filled_names names) whole.file kept whole.held draft.names whole.keeps
       ∙ (ap (λ (n : NameLists). names_with whole.held.head n) are ∙ ap (λ (b : Base). b.names) with_held)
 
   pub next-end : (draft : Kept) → draft.end ≡ so_far.end → end_after draft.end kept.len ≡ next.end
@@ -103,88 +104,89 @@ module _ (game : ℕ) (index : List ℕ) (names : PartLists) (games : List ℕ) 
 
   -- The new games file with its record.
   pub next-stands : (draft after : Kept) (file fresh : Option (List ℕ)) → Takes (filled_names names) kept draft after → after.end ≡ end_after draft.end kept.len →
-      fresh ≡ adds file (padded draft.end (record_in games (extent_of kept))) → IfSome file (λ f. (length f ≡ draft.end) × Represents draft f so_far) → IfSome fresh (λ f. (length f ≡ after.end) × Represents after f next)
+      fresh ≡ adds file (padded draft.end bytes) → IfSome file (λ f. (length f ≡ draft.end) × Represents draft f so_far) → IfSome fresh (λ f. (length f ≡ after.end) × Represents after f next)
   next-stands draft after None fresh takes end is stands = subst (λ (o : Option (List ℕ)). IfSome o (λ f. (length f ≡ after.end) × Represents after f next)) (sym is) tt
   next-stands draft after (Some file) fresh takes end is stands =
-      let more = file ++ padded draft.end (record_in games (extent_of kept)) in
-      let G : Base → Type 0 = λ b. (length more ≡ after.end) × Represents after more b in
-      let done : G (with_game whole.held so_far) = (placed-long games file draft.end kept stands.0 whole.keeps.says.within ∙ sym end, takes whole.held games file so_far whole.keeps stands.0 stands.1) in
-      subst (λ (o : Option (List ℕ)). IfSome o (λ f. (length f ≡ after.end) × Represents after f next)) (sym is) (subst G with_held done)
+      let G : List ℕ → Base → Type 0 = λ bs b. (length (file ++ padded draft.end bs) ≡ after.end) × Represents after (file ++ padded draft.end bs) b in
+      let done : G (record_in whole.file (extent_of kept)) (with_game whole.held so_far) =
+      (placed-long whole.file file draft.end kept stands.0 whole.keeps.says.within ∙ sym end, takes whole.held whole.file file so_far whole.keeps stands.0 stands.1) in
+      let here : G bytes (with_game whole.held so_far) = subst (λ (bs : List ℕ). G bs (with_game whole.held so_far)) (sym whole.stands) done in
+      subst (λ (o : Option (List ℕ)). IfSome o (λ f. (length f ≡ after.end) × Represents after f next)) (sym is) (subst (G bytes) with_held here)
 
-has-kept : (game : ℕ) (index : List ℕ) (names : PartLists) (games : List ℕ) (told now : Option (List Note)) (more : ℕ) (draft after : Kept) (file fresh : Option (List ℕ)) (kept : Entry) (change : Option BaseFault) →
-    KeepsWhole index names games game kept change → Takes (filled_names names) kept draft after → Grows kept.len draft after → after.names ≡ names_with (head_of (filled_names names) kept []) draft.names →
-    fresh ≡ adds file (padded draft.end (record_in games (extent_of kept))) → now ≡ with_notes told (notes_of_change game change) → more ≡ (if is_some change then 1 else 0) →
-    MendsNext game index names games told now more draft after file fresh
-has-kept game index names games told now more draft after file fresh kept change whole takes grows names_are added tells one = λ header before changed has.
+has-kept : (game : ℕ) (faulty : Faulty) (index : List ℕ) (names : PartLists) (games : List ℕ) (told now : Option (List Note)) (more : ℕ) (draft after : Kept) (file fresh : Option (List ℕ)) (bytes : List ℕ) (kept : Entry) (change : Option BaseFault) →
+    KeepsWhole faulty index names games game bytes kept change → Takes (filled_names names) kept draft after → Grows kept.len draft after → after.names ≡ names_with (head_of (filled_names names) kept []) draft.names →
+    fresh ≡ adds file (padded draft.end bytes) → now ≡ with_notes told (notes_of_change game change) → more ≡ (if is_some change then 1 else 0) →
+    MendsNext game faulty index names games told now more draft after file fresh
+has-kept game faulty index names games told now more draft after file fresh bytes kept change whole takes grows names_are added tells one = λ header before changed has.
     let found : Found = record { held = whole.held; change = change } in
     record {
-      notes = told-more index names games before told now game (Ok found) whole.place has.notes tells;
-      came = grows.count ∙ (ap (λ n. n + 1) has.came ∙ (sym (length_push (games_of (places_of index names games game)) whole.held) ∙ ap (λ (gs : List Held). length gs) (sym (games-more index names games game found whole.place))));
-      changed_are = ap (λ n. changed + n) one ∙ (ap (λ n. n + (if is_some change then 1 else 0)) has.changed_are ∙ sym (changed-more index names games game found whole.place));
-      end = grows.end ∙ next-end game index names games header kept change whole draft has.end;
-      names_are = names_are ∙ next-names game index names games header kept change whole draft has.names_are;
-      stands = next-stands game index names games header kept change whole draft after file fresh takes grows.end added has.stands;
+      notes = told-more faulty index names games before told now game (Ok found) whole.place has.notes tells;
+      came = grows.count ∙ (ap (λ n. n + 1) has.came ∙ (sym (length_push (games_of (places_of faulty index names games game)) whole.held) ∙ ap (λ (gs : List Held). length gs) (sym (games-more faulty index names games game found whole.place))));
+      changed_are = ap (λ n. changed + n) one ∙ (ap (λ n. n + (if is_some change then 1 else 0)) has.changed_are ∙ sym (changed-more faulty index names games game found whole.place));
+      end = grows.end ∙ next-end game faulty index names games header bytes kept change whole draft has.end;
+      names_are = names_are ∙ next-names game faulty index names games header bytes kept change whole draft has.names_are;
+      stands = next-stands game faulty index names games header bytes kept change whole draft after file fresh takes grows.end added has.stands;
     }
 
 -- The new base would be full with it.
-has-filled : (game : ℕ) (index : List ℕ) (names : PartLists) (games : List ℕ) (told : Option (List Note)) (draft : Kept) (file : Option (List ℕ)) (kept : Entry) (change : Option BaseFault) (what : What) → game < entries_found index →
-    KeepsWhole index names games game kept change → or_file (full_names (names_with (head_of (filled_names names) kept []) draft.names)) (end_after draft.end kept.len) ≡ Some what → FillsNext game index names games told draft file what
-has-filled game index names games told draft file kept change what below whole full = λ header before changed has.
+has-filled : (game : ℕ) (faulty : Faulty) (index : List ℕ) (names : PartLists) (games : List ℕ) (told : Option (List Note)) (draft : Kept) (file : Option (List ℕ)) (bytes : List ℕ) (kept : Entry) (change : Option BaseFault) (what : What) → game < entries_found index →
+    KeepsWhole faulty index names games game bytes kept change → or_file (full_names (names_with (head_of (filled_names names) kept []) draft.names)) (end_after draft.end kept.len) ≡ Some what → FillsNext game faulty index names games told draft file what
+has-filled game faulty index names games told draft file bytes kept change what below whole full = λ header before changed has.
     let N : NameLists → Type 0 = λ n. or_file (full_names n) (end_after draft.end kept.len) ≡ Some what in
-    let E : ℕ → Type 0 = λ n. or_file (full_names (mended_base header (games_of (places_of index names games (game + 1)))).names) n ≡ Some what in
+    let E : ℕ → Type 0 = λ n. or_file (full_names (mended_base header (games_of (places_of faulty index names games (game + 1)))).names) n ≡ Some what in
     record {
       header = header;
       count = game + 1;
       few = omega (arith, below);
-      full = subst E (next-end game index names games header kept change whole draft has.end) (subst N (next-names game index names games header kept change whole draft has.names_are) full);
+      full = subst E (next-end game faulty index names games header bytes kept change whole draft has.end) (subst N (next-names game faulty index names games header bytes kept change whole draft has.names_are) full);
     }
 
--- The same, where the games file may be told, and what was added is the record that was read.
-pub kept-told : (old : Option (List ℕ)) (game : ℕ) (index : List ℕ) (names : PartLists) (told now : Option (List Note)) (more : ℕ) (draft after : Kept) (file fresh : Option (List ℕ)) (kept : Entry) (change : Option BaseFault) (bytes : List ℕ) →
-    IfSome old (λ games. KeepsWhole index names games game kept change) → Tells (part_told old kept.offset kept.len) bytes → Takes (filled_names names) kept draft after → Grows kept.len draft after →
+-- The same, where the games file may be told.
+pub kept-told : (old : Option (List ℕ)) (game : ℕ) (faulty : Faulty) (index : List ℕ) (names : PartLists) (told now : Option (List Note)) (more : ℕ) (draft after : Kept) (file fresh : Option (List ℕ)) (bytes : List ℕ) (kept : Entry) (change : Option BaseFault) →
+    IfSome old (λ games. KeepsWhole faulty index names games game bytes kept change) → Takes (filled_names names) kept draft after → Grows kept.len draft after →
     after.names ≡ names_with (head_of (filled_names names) kept []) draft.names → fresh ≡ adds file (padded draft.end bytes) → now ≡ with_notes told (notes_of_change game change) → more ≡ (if is_some change then 1 else 0) →
-    IfSome old (λ games. MendsNext game index names games told now more draft after file fresh)
-kept-told None game index names told now more draft after file fresh kept change bytes whole read takes grows names_are added tells one = tt
-kept-told (Some games) game index names told now more draft after file fresh kept change bytes whole read takes grows names_are added tells one =
-    has-kept game index names games told now more draft after file fresh kept change whole takes grows names_are (added ∙ ap (λ (b : List ℕ). adds file (padded draft.end b)) read) tells one
+    IfSome old (λ games. MendsNext game faulty index names games told now more draft after file fresh)
+kept-told None game faulty index names told now more draft after file fresh bytes kept change whole takes grows names_are added tells one = tt
+kept-told (Some games) game faulty index names told now more draft after file fresh bytes kept change whole takes grows names_are added tells one =
+    has-kept game faulty index names games told now more draft after file fresh bytes kept change whole takes grows names_are added tells one
 
-pub left-out-told : (old : Option (List ℕ)) (game : ℕ) (index : List ℕ) (names : PartLists) (told now : Option (List Note)) (draft : Kept) (file : Option (List ℕ)) (fault : BaseFault) →
-    IfSome old (λ games. place_of names games game (entry_bytes index game) ≡ Err fault) → now ≡ with_notes told (notes_of_place game (Err fault)) → IfSome old (λ games. MendsNext game index names games told now 0 draft draft file file)
-left-out-told None game index names told now draft file fault place tells = tt
-left-out-told (Some games) game index names told now draft file fault place tells = has-left-out game index names games told now draft file fault place tells
+pub left-out-told : (old : Option (List ℕ)) (game : ℕ) (faulty : Faulty) (index : List ℕ) (names : PartLists) (told now : Option (List Note)) (draft : Kept) (file : Option (List ℕ)) (fault : BaseFault) →
+    IfSome old (λ games. place_of faulty names games game (entry_bytes index game) ≡ Err fault) → now ≡ with_notes told (notes_of_place game (Err fault)) → IfSome old (λ games. MendsNext game faulty index names games told now 0 draft draft file file)
+left-out-told None game faulty index names told now draft file fault place tells = tt
+left-out-told (Some games) game faulty index names told now draft file fault place tells = has-left-out game faulty index names games told now draft file fault place tells
 
-pub filled-told : (old : Option (List ℕ)) (game : ℕ) (index : List ℕ) (names : PartLists) (told : Option (List Note)) (draft : Kept) (file : Option (List ℕ)) (kept : Entry) (change : Option BaseFault) (what : What) → game < entries_found index →
-    IfSome old (λ games. KeepsWhole index names games game kept change) → or_file (full_names (names_with (head_of (filled_names names) kept []) draft.names)) (end_after draft.end kept.len) ≡ Some what →
-    IfSome old (λ games. FillsNext game index names games told draft file what)
-filled-told None game index names told draft file kept change what below whole full = tt
-filled-told (Some games) game index names told draft file kept change what below whole full = has-filled game index names games told draft file kept change what below whole full
+pub filled-told : (old : Option (List ℕ)) (game : ℕ) (faulty : Faulty) (index : List ℕ) (names : PartLists) (told : Option (List Note)) (draft : Kept) (file : Option (List ℕ)) (bytes : List ℕ) (kept : Entry) (change : Option BaseFault) (what : What) → game < entries_found index →
+    IfSome old (λ games. KeepsWhole faulty index names games game bytes kept change) → or_file (full_names (names_with (head_of (filled_names names) kept []) draft.names)) (end_after draft.end kept.len) ≡ Some what →
+    IfSome old (λ games. FillsNext game faulty index names games told draft file what)
+filled-told None game faulty index names told draft file bytes kept change what below whole full = tt
+filled-told (Some games) game faulty index names told draft file bytes kept change what below whole full = has-filled game faulty index names games told draft file bytes kept change what below whole full
 
 -- ---- all games.
 
-pub none-told : (old : Option (List ℕ)) (header : IndexHead) (index : List ℕ) (names : PartLists) (told : Option (List Note)) (seen : Option (List ℕ)) → IfSome old (λ games. HasMended 0 header index names games told told 0 (begun header) (told_instead [] seen))
-none-told None header index names told seen = tt
-none-told (Some games) header index names told seen = has-none header index names games told seen
+pub none-told : (old : Option (List ℕ)) (header : IndexHead) (faulty : Faulty) (index : List ℕ) (names : PartLists) (told : Option (List Note)) (seen : Option (List ℕ)) → IfSome old (λ games. HasMended 0 header faulty index names games told told 0 (begun header) (told_instead [] seen))
+none-told None header faulty index names told seen = tt
+none-told (Some games) header faulty index names told seen = has-none header faulty index names games told seen
 
-pub next-told : (old : Option (List ℕ)) (count : ℕ) (header : IndexHead) (index : List ℕ) (names : PartLists) (before told now : Option (List Note)) (changed more : ℕ) (draft after : Kept) (file fresh : Option (List ℕ)) →
-    IfSome old (λ games. HasMended count header index names games before told changed draft file) → IfSome old (λ games. MendsNext count index names games told now more draft after file fresh) →
-    IfSome old (λ games. HasMended (count + 1) header index names games before now (changed + more) after fresh)
-next-told None count header index names before told now changed more draft after file fresh has next = tt
-next-told (Some games) count header index names before told now changed more draft after file fresh has next = next header before changed has
+pub next-told : (old : Option (List ℕ)) (count : ℕ) (header : IndexHead) (faulty : Faulty) (index : List ℕ) (names : PartLists) (before told now : Option (List Note)) (changed more : ℕ) (draft after : Kept) (file fresh : Option (List ℕ)) →
+    IfSome old (λ games. HasMended count header faulty index names games before told changed draft file) → IfSome old (λ games. MendsNext count faulty index names games told now more draft after file fresh) →
+    IfSome old (λ games. HasMended (count + 1) header faulty index names games before now (changed + more) after fresh)
+next-told None count header faulty index names before told now changed more draft after file fresh has next = tt
+next-told (Some games) count header faulty index names before told now changed more draft after file fresh has next = next header before changed has
 
 -- What was told of the first games begins what is told of all of them.
-pub began-told : (old : Option (List ℕ)) (n count : ℕ) (header : IndexHead) (index : List ℕ) (names : PartLists) (before told now : Option (List Note)) (changed : ℕ) (draft : Kept) (file : Option (List ℕ)) → now ≡ told → n ≤ count →
-    IfSome old (λ games. HasMended n header index names games before told changed draft file) → IfSome old (λ games. Began (notes_from 0 (places_of index names games count)) before now)
-began-told None n count header index names before told now changed draft file same few has = tt
-began-told (Some games) n count header index names before told now changed draft file same few has = began-so-far index names games n count before now few (same ∙ has.notes)
+pub began-told : (old : Option (List ℕ)) (n count : ℕ) (header : IndexHead) (faulty : Faulty) (index : List ℕ) (names : PartLists) (before told now : Option (List Note)) (changed : ℕ) (draft : Kept) (file : Option (List ℕ)) → now ≡ told → n ≤ count →
+    IfSome old (λ games. HasMended n header faulty index names games before told changed draft file) → IfSome old (λ games. Began (notes_from 0 (places_of faulty index names games count)) before now)
+began-told None n count header faulty index names before told now changed draft file same few has = tt
+began-told (Some games) n count header faulty index names before told now changed draft file same few has = began-so-far faulty index names games n count before now few (same ∙ has.notes)
 
-pub began-here : (old : Option (List ℕ)) (count : ℕ) (index : List ℕ) (names : PartLists) (before now : Option (List Note)) → now ≡ before → IfSome old (λ games. Began (notes_from 0 (places_of index names games count)) before now)
-began-here None count index names before now same = tt
-began-here (Some games) count index names before now same = began-none (notes_from 0 (places_of index names games count)) before now same
+pub began-here : (old : Option (List ℕ)) (count : ℕ) (faulty : Faulty) (index : List ℕ) (names : PartLists) (before now : Option (List Note)) → now ≡ before → IfSome old (λ games. Began (notes_from 0 (places_of faulty index names games count)) before now)
+began-here None count faulty index names before now same = tt
+began-here (Some games) count faulty index names before now same = began-none (notes_from 0 (places_of faulty index names games count)) before now same
 
-pub fills-told : (old : Option (List ℕ)) (count : ℕ) (header : IndexHead) (index : List ℕ) (names : PartLists) (before told : Option (List Note)) (changed : ℕ) (draft : Kept) (file : Option (List ℕ)) (what : What) →
-    IfSome old (λ games. HasMended count header index names games before told changed draft file) → IfSome old (λ games. FillsNext count index names games told draft file what) → IfSome old (λ games. IsTooMuch index names games what)
-fills-told None count header index names before told changed draft file what has fills = tt
-fills-told (Some games) count header index names before told changed draft file what has fills = fills header before changed has
+pub fills-told : (old : Option (List ℕ)) (count : ℕ) (header : IndexHead) (faulty : Faulty) (index : List ℕ) (names : PartLists) (before told : Option (List Note)) (changed : ℕ) (draft : Kept) (file : Option (List ℕ)) (what : What) →
+    IfSome old (λ games. HasMended count header faulty index names games before told changed draft file) → IfSome old (λ games. FillsNext count faulty index names games told draft file what) → IfSome old (λ games. IsTooMuch faulty index names games what)
+fills-told None count header faulty index names before told changed draft file what has fills = tt
+fills-told (Some games) count header faulty index names before told changed draft file what has fills = fills header before changed has
 
 -- What the games so far and one more cost.
 cost-more : (index : List ℕ) (a n : ℕ) → entries_cost index a ≤ entries_cost index (n + a)
@@ -218,55 +220,55 @@ means_so (Some i) (Some n) (Some g) fresh draft made same stands opens =
     let here = subst (λ (o : Option (List ℕ)). IfSome o (λ file. (length file ≡ draft.end) × Represents draft file made)) (sym same) stands in
     opens made here.0 here.1
 
-pub mends-so : (old : Option (List ℕ)) (index : List ℕ) (names : PartLists) (before told now after : Option (List Note)) (changed : ℕ) (mid new : Seen) (header : IndexHead) (draft : Kept) (mended : Mended) → head_found index ≡ Ok header →
+pub mends-so : (old : Option (List ℕ)) (faulty : Faulty) (index : List ℕ) (names : PartLists) (before told now after : Option (List Note)) (changed : ℕ) (mid new : Seen) (header : IndexHead) (draft : Kept) (mended : Mended) → head_found index ≡ Ok header →
     mended.of ≡ max header.games (entries_found index) → mended.came ≡ length draft.entries → mended.changed ≡ changed → told ≡ with_notes before (notes_of_head index header) →
-    IfSome old (λ games. HasMended (entries_found index) header index names games told now changed draft mid.fresh) → after ≡ with_notes now (notes_of_rest index header) → PutsIt draft mid new →
-    IfSome old (λ games. Mends index names games before after new mended)
-mends-so None index names before told now after changed mid new header draft mended read of came more first has rest puts = tt
-mends-so (Some games) index names before told now after changed mid new header draft mended read of came more first has rest puts = record {
+    IfSome old (λ games. HasMended (entries_found index) header faulty index names games told now changed draft mid.fresh) → after ≡ with_notes now (notes_of_rest index header) → PutsIt draft mid new →
+    IfSome old (λ games. Mends faulty index names games before after new mended)
+mends-so None faulty index names before told now after changed mid new header draft mended read of came more first has rest puts = tt
+mends-so (Some games) faulty index names before told now after changed mid new header draft mended read of came more first has rest puts = record {
   header = header;
   read = read;
   of = of;
   came = came ∙ has.came;
   changed = more ∙ has.changed_are;
   notes = rest
-      ∙ (ap (λ t. with_notes t (notes_of_rest index header)) (has.notes ∙ (ap (λ t. with_notes t (notes_from 0 (places_of index names games (entries_found index)))) first))
-      ∙ (all-told before (notes_of_head index header) (notes_from 0 (places_of index names games (entries_found index))) (notes_of_rest index header)
-      ∙ ap (λ (r : Result IndexHead IndexFault). with_notes before (notes_with r index names games)) (sym read)));
-  means = means_so new.index new.names new.games mid.fresh draft (mended_base header (games_of (places_of index names games (entries_found index)))) puts.games has.stands puts.opens;
+      ∙ (ap (λ t. with_notes t (notes_of_rest index header)) (has.notes ∙ (ap (λ t. with_notes t (notes_from 0 (places_of faulty index names games (entries_found index)))) first))
+      ∙ (all-told before (notes_of_head index header) (notes_from 0 (places_of faulty index names games (entries_found index))) (notes_of_rest index header)
+      ∙ ap (λ (r : Result IndexHead IndexFault). with_notes before (notes_with r faulty index names games)) (sym read)));
+  means = means_so new.index new.names new.games mid.fresh draft (mended_base header (games_of (places_of faulty index names games (entries_found index)))) puts.games has.stands puts.opens;
 }
 
 -- ---- what was told where mending stopped.
 
-module _ (old : Option (List ℕ)) (index : List ℕ) (names : PartLists) (header : IndexHead) (read : head_found index ≡ Ok header) where
+module _ (old : Option (List ℕ)) (faulty : Faulty) (index : List ℕ) (names : PartLists) (header : IndexHead) (read : head_found index ≡ Ok header) where
   abbrev games_notes : List ℕ → List Note
-  games_notes games = notes_from 0 (places_of index names games (entries_found index))
+  games_notes games = notes_from 0 (places_of faulty index names games (entries_found index))
 
-  all_are : (games : List ℕ) (before now : Option (List Note)) → Began (notes_of_head index header ++ (games_notes games ++ notes_of_rest index header)) before now → Began (all_notes index names games) before now
-  all_are games before now began = subst (λ (r : Result IndexHead IndexFault). Began (notes_with r index names games) before now) (sym read) began
+  all_are : (games : List ℕ) (before now : Option (List Note)) → Began (notes_of_head index header ++ (games_notes games ++ notes_of_rest index header)) before now → Began (all_notes faulty index names games) before now
+  all_are games before now began = subst (λ (r : Result IndexHead IndexFault). Began (notes_with r faulty index names games) before now) (sym read) began
 
-  pub began-head : (before now : Option (List Note)) → Began (notes_of_head index header) before now → IfSome old (λ games. Began (all_notes index names games) before now)
+  pub began-head : (before now : Option (List Note)) → Began (notes_of_head index header) before now → IfSome old (λ games. Began (all_notes faulty index names games) before now)
   began-head before now began = by old
     where
-      by : (o : Option (List ℕ)) → IfSome o (λ games. Began (all_notes index names games) before now)
+      by : (o : Option (List ℕ)) → IfSome o (λ games. Began (all_notes faulty index names games) before now)
       by None = tt
       by (Some games) = all_are games before now (began-front (notes_of_head index header) (games_notes games ++ notes_of_rest index header) before now began)
 
-  pub began-games : (before mid now : Option (List Note)) → mid ≡ with_notes before (notes_of_head index header) → IfSome old (λ games. Began (games_notes games) mid now) → IfSome old (λ games. Began (all_notes index names games) before now)
+  pub began-games : (before mid now : Option (List Note)) → mid ≡ with_notes before (notes_of_head index header) → IfSome old (λ games. Began (games_notes games) mid now) → IfSome old (λ games. Began (all_notes faulty index names games) before now)
   began-games before mid now first = by old
     where
-      by : (o : Option (List ℕ)) → IfSome o (λ games. Began (games_notes games) mid now) → IfSome o (λ games. Began (all_notes index names games) before now)
+      by : (o : Option (List ℕ)) → IfSome o (λ games. Began (games_notes games) mid now) → IfSome o (λ games. Began (all_notes faulty index names games) before now)
       by None began = tt
       by (Some games) began =
           all_are games before now
           (began-behind (notes_of_head index header) (games_notes games ++ notes_of_rest index header) before mid now first (began-front (games_notes games) (notes_of_rest index header) mid now began))
 
   pub began-rest : (before mid told now : Option (List Note)) (changed : ℕ) (draft : Kept) (file : Option (List ℕ)) → mid ≡ with_notes before (notes_of_head index header) →
-      IfSome old (λ games. HasMended (entries_found index) header index names games mid told changed draft file) → Began (notes_of_rest index header) told now → IfSome old (λ games. Began (all_notes index names games) before now)
+      IfSome old (λ games. HasMended (entries_found index) header faulty index names games mid told changed draft file) → Began (notes_of_rest index header) told now → IfSome old (λ games. Began (all_notes faulty index names games) before now)
   began-rest before mid told now changed draft file first = by old
     where
-      by : (o : Option (List ℕ)) → IfSome o (λ games. HasMended (entries_found index) header index names games mid told changed draft file) → Began (notes_of_rest index header) told now →
-          IfSome o (λ games. Began (all_notes index names games) before now)
+      by : (o : Option (List ℕ)) → IfSome o (λ games. HasMended (entries_found index) header faulty index names games mid told changed draft file) → Began (notes_of_rest index header) told now →
+          IfSome o (λ games. Began (all_notes faulty index names games) before now)
       by None has began = tt
       by (Some games) has began =
           all_are games before now
@@ -282,14 +284,14 @@ told-so P (Some i) (Some n) None index names at_i at_n is = tt
 told-so P (Some i) (Some n) (Some games) index names at_i at_n is = subst (λ (x : List ℕ). P x n games) at_i (subst (λ (y : List ℕ). P index y games) at_n is)
 
 -- Why no base is mended.
-pub why-so : (old : Option (List ℕ)) (index : List ℕ) (names : PartLists) (e : MendError) → WhyStopped (λ what. IfSome old (λ games. IsTooMuch index names games what)) e → IfSome old (λ games. WhyNotMended index names games e)
-why-so None index names e why = tt
-why-so (Some games) index names (error.Bad fault) why = absurd why
-why-so (Some games) index names (error.Full what) why = why
-why-so (Some games) index names error.OldFailed why = tt
-why-so (Some games) index names error.NewFailed why = tt
-why-so (Some games) index names error.ReportFailed why = tt
-why-so (Some games) index names error.Memory why = tt
+pub why-so : (old : Option (List ℕ)) (faulty : Faulty) (index : List ℕ) (names : PartLists) (e : MendError) → WhyStopped (λ what. IfSome old (λ games. IsTooMuch faulty index names games what)) e → IfSome old (λ games. WhyNotMended faulty index names games e)
+why-so None faulty index names e why = tt
+why-so (Some games) faulty index names (error.Bad fault) why = absurd why
+why-so (Some games) faulty index names (error.Full what) why = why
+why-so (Some games) faulty index names error.OldFailed why = tt
+why-so (Some games) faulty index names error.NewFailed why = tt
+why-so (Some games) faulty index names error.ReportFailed why = tt
+why-so (Some games) faulty index names error.Memory why = tt
 
 pub made-so : (old mid new : Seen) → FreshAlone old mid → IsMade mid new → IsMade old new
 made-so old mid new alone made = record {
@@ -300,12 +302,12 @@ made-so old mid new alone made = record {
   put = made.put;
 }
 
-pub began-unread : (i n g : Option (List ℕ)) (told : Option (List Note)) → IfSome i (λ index. IfSome n (λ names. IfSome g (λ games. Began (all_notes index (names_in_part names) games) told told)))
-began-unread None n g told = tt
-began-unread (Some i) None g told = tt
-began-unread (Some i) (Some n) None told = tt
-began-unread (Some i) (Some n) (Some g) told = began-none (all_notes i (names_in_part n) g) told told refl
+pub began-unread : (faulty : Faulty) (i n g : Option (List ℕ)) (told : Option (List Note)) → IfSome i (λ index. IfSome n (λ names. IfSome g (λ games. Began (all_notes faulty index (names_in_part names) games) told told)))
+began-unread faulty None n g told = tt
+began-unread faulty (Some i) None g told = tt
+began-unread faulty (Some i) (Some n) None told = tt
+began-unread faulty (Some i) (Some n) (Some g) told = began-none (all_notes faulty i (names_in_part n) g) told told refl
 
-pub began-nothing : (old : Option (List ℕ)) (index : List ℕ) (names : PartLists) (told now : Option (List Note)) → now ≡ told → IfSome old (λ games. Began (all_notes index names games) told now)
-began-nothing None index names told now same = tt
-began-nothing (Some games) index names told now same = began-none (all_notes index names games) told now same
+pub began-nothing : (old : Option (List ℕ)) (faulty : Faulty) (index : List ℕ) (names : PartLists) (told now : Option (List Note)) → now ≡ told → IfSome old (λ games. Began (all_notes faulty index names games) told now)
+began-nothing None faulty index names told now same = tt
+began-nothing (Some games) faulty index names told now same = began-none (all_notes faulty index names games) told now same

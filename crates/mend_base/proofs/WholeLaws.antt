@@ -30,6 +30,7 @@ use Rattle.mend_base.specs.Entries.{entries_found}
 use Rattle.mend_base.specs.Fields.{known_in}
 use Rattle.mend_base.specs.Mending.{ComesOver}
 use Rattle.mend_base.specs.Notes.{all_notes, notes_from, notes_of_count, notes_of_fault, notes_of_rest, notes_with}
+use Rattle.mend_base.specs.declared.fronts.Faulty.{Faulty}
 use Rattle.mend_base.specs.declared.report.Note.{Note}
 use Rattle.mend_base.specs.declared.report.Note.TheVariants as line
 use Rattle.mend_base.specs.Places.{Found, Place, change_in, games_of, held_by, missing_in, place_of, places_of}
@@ -69,9 +70,9 @@ no_change names few game bytes e has is = rw (no-fault bytes e is, known-read by
 -- ---- the places.
 
 -- The place of a game of a base.
-place_whole : (names : NameLists) (games : List ℕ) (game : ℕ) (bytes : List ℕ) (held : Held) → AreFew names → IsEntryOf names games bytes held → Passes false names games game bytes →
-    place_of (all_known names) games game bytes ≡ Ok (record { held = held; change = None })
-place_whole names games game bytes held few is passes =
+place_whole : (faulty : Faulty) (names : NameLists) (games : List ℕ) (game : ℕ) (bytes : List ℕ) (held : Held) → AreFew names → IsEntryOf names games bytes held → Passes false names games game bytes →
+    place_of faulty (all_known names) games game bytes ≡ Ok (record { held = held; change = None })
+place_whole faulty names games game bytes held few is passes =
     let parts = all_known names in
     let check = checked names (length games) game bytes passes.fields passes.checked in
     let e = is.fields in
@@ -84,69 +85,69 @@ place_whole names games game bytes held few is passes =
     ap (λ (h : Head). made (settled h)) (head_same names few e has tags) ∙ held-by names games e held is.says in
     let same_as_it : Option BaseFault → Place = λ c. Ok (record { held = held; change = c }) in
     let place : Entry → Place = λ x. Ok (record { held = held_by (filled_names parts) x (tags, held.game); change = change_in parts game bytes }) in
-    read-place parts games game bytes tags held.game (subst (λ (x : Entry). place_fault (length games) x ≡ None) (same ∙ sym known) check.placed)
+    read-place faulty parts games game bytes tags held.game (subst (λ (x : Entry). place_fault (length games) x ≡ None) (same ∙ sym known) check.placed)
     (subst (λ (x : Entry). record_answer (record_in games (extent_of x)) ≡ Ok (tags, held.game)) (sym known) is.says.read)
     ∙ (ap place known ∙ (ap (λ (h : Held). Ok (record { held = h; change = change_in parts game bytes })) here ∙ ap same_as_it (no_change names few game bytes e has is.read)))
 
-module _ (index names games : List ℕ) (base : Base) (means : Means index names games base) (passes : (i : ℕ) → i < base.header.games → Passes false base.names games i (entry_bytes index i)) where
+module _ (faulty : Faulty) (index names games : List ℕ) (base : Base) (means : Means index names games base) (passes : (i : ℕ) → i < base.header.games → Passes false base.names games i (entry_bytes index i)) where
   abbrev parts : PartLists
   parts = names_in_part names
 
-  place_at : (i : ℕ) → i < base.header.games → (held : Held) × ((slice_get base.games i ≡ Some held) × (place_of parts games i (entry_bytes index i) ≡ Ok (record { held = held; change = None })))
+  place_at : (i : ℕ) → i < base.header.games → (held : Held) × ((slice_get base.games i ≡ Some held) × (place_of faulty parts games i (entry_bytes index i) ≡ Ok (record { held = held; change = None })))
   place_at i below =
       let read = read-whole names base.names means.lists in
       let held = get_some base.games i (omega (arith, below, means.held.long)) in
-      let whole = place_whole base.names games i (entry_bytes index i) held.0 read.few (means.held.each i held.0 held.1) (passes i below) in
-      (held.0, (held.1, ap (λ (p : PartLists). place_of p games i (entry_bytes index i)) read.part ∙ whole))
+      let whole = place_whole faulty base.names games i (entry_bytes index i) held.0 read.few (means.held.each i held.0 held.1) (passes i below) in
+      (held.0, (held.1, ap (λ (p : PartLists). place_of faulty p games i (entry_bytes index i)) read.part ∙ whole))
 
-  games_whole : (n : ℕ) → n ≤ base.header.games → games_of (places_of index parts games n) ≡ take n base.games
+  games_whole : (n : ℕ) → n ≤ base.header.games → games_of (places_of faulty index parts games n) ≡ take n base.games
   games_whole zero few = refl
   games_whole (suc n) few =
       let here = place_at n (omega (arith, few)) in
       let found : Found = record { held = here.0; change = None } in
-      ap (λ m. games_of (places_of index parts games m)) (sym (add-one n))
-      ∙ (games-more index parts games n found here.1.1
+      ap (λ m. games_of (places_of faulty index parts games m)) (sym (add-one n))
+      ∙ (games-more faulty index parts games n found here.1.1
       ∙ (ap (λ gs. gs ++ here.0 ∷ []) (games_whole n (omega (arith, few)))
       ∙ (sym (take_next base.games n here.0 here.1.0) ∙ ap (λ m. take m base.games) (add-one n))))
 
-  notes_whole : (n : ℕ) → n ≤ base.header.games → notes_from 0 (places_of index parts games n) ≡ []
+  notes_whole : (n : ℕ) → n ≤ base.header.games → notes_from 0 (places_of faulty index parts games n) ≡ []
   notes_whole zero few = refl
   notes_whole (suc n) few =
       let here = place_at n (omega (arith, few)) in
-      ap (λ m. notes_from 0 (places_of index parts games m)) (sym (add-one n))
-      ∙ (notes-more index parts games n (Ok (record { held = here.0; change = None })) here.1.1 ∙ ap (λ ns. ns ++ []) (notes_whole n (omega (arith, few))))
+      ap (λ m. notes_from 0 (places_of faulty index parts games m)) (sym (add-one n))
+      ∙ (notes-more faulty index parts games n (Ok (record { held = here.0; change = None })) here.1.1 ∙ ap (λ ns. ns ++ []) (notes_whole n (omega (arith, few))))
 
-  games_all : games_of (places_of index parts games base.header.games) ≡ base.games
+  games_all : games_of (places_of faulty index parts games base.header.games) ≡ base.games
   games_all = games_whole base.header.games (omega arith) ∙ take_all base.header.games base.games (omega (arith, means.held.long))
 
-  untold : notes_from 0 (places_of index parts games base.header.games) ≡ []
+  untold : notes_from 0 (places_of faulty index parts games base.header.games) ≡ []
   untold = notes_whole base.header.games (omega arith)
 
   read : header_read index ≡ Ok base.header
   read = header-read index base.header means.header
 
-  first : (others : List Held) × (games_of (places_of index parts games (entries_found index)) ≡ base.games ++ others)
+  first : (others : List Held) × (games_of (places_of faulty index parts games (entries_found index)) ≡ base.games ++ others)
   first =
       let there = found-all index base.header.games (header-few index base.header read) (index-whole index base.header means.header) in
-      let front = games-first index parts games base.header.games (entries_found index) there in
+      let front = games-first faulty index parts games base.header.games (entries_found index) there in
       (front.0, front.1 ∙ ap (λ gs. gs ++ front.0) games_all)
 
-  silent : entries_found index ≡ base.header.games → all_notes index parts games ≡ []
+  silent : entries_found index ≡ base.header.games → all_notes faulty index parts games ≡ []
   silent same =
       let fault : notes_of_fault (header_read index) ≡ [] = ap notes_of_fault read in
       let none : List Note = [] in
       let count : notes_of_count base.header.games (entries_found index) ≡ [] = ap (λ (b : Bool). if b then none else (line.Counted base.header.games (entries_found index) ∷ [])) (eq-eqb base.header.games (entries_found index) (sym same)) in
-      let games_are : notes_from 0 (places_of index parts games (entries_found index)) ≡ [] = ap (λ m. notes_from 0 (places_of index parts games m)) same ∙ untold in
+      let games_are : notes_from 0 (places_of faulty index parts games (entries_found index)) ≡ [] = ap (λ m. notes_from 0 (places_of faulty index parts games m)) same ∙ untold in
       let rest : notes_of_rest index base.header ≡ [] = ap (λ (b : Bool). if b then (line.NotThere (entries_found index) (base.header.games - 1) (Index (Length (length index))) ∷ []) else none) (le-ltb (entries_found index) base.header.games (omega (arith, same))) in
-      ap (λ (r : Result IndexHead IndexFault). notes_with r index parts games) (header-found index base.header read)
+      ap (λ (r : Result IndexHead IndexFault). notes_with r faulty index parts games) (header-found index base.header read)
       ∙ (ap₂ (λ a b. a ++ b) (ap₂ (λ a b. a ++ b) fault count) (ap₂ (λ a b. a ++ b) games_are rest))
 
-  pub over : ComesOver index names games base
+  pub over : ComesOver faulty index names games base
   over = record {
     means = means;
     first = first;
     untold = untold;
-    alone = λ same. ap (λ m. games_of (places_of index parts games m)) same ∙ games_all;
+    alone = λ same. ap (λ m. games_of (places_of faulty index parts games m)) same ∙ games_all;
     silent = silent;
   }
 
@@ -154,8 +155,8 @@ passes_loosely : (strict : Bool) (names : NameLists) (games : List ℕ) (game : 
 passes_loosely strict names games game bytes p = record { fields = p.fields; checked = p.checked; sig = p.sig; signs = p.signs; derived = λ is. absurd (true≢false (sym is)) }
 
 -- Files without a first fault mean a base that comes over as it is.
-pub comes-over : (strict : Bool) (index names games : List ℕ) → FaultOrBase strict index names games → ((fault : BaseFault) → FirstFault strict index names games fault → ⊥) →
-    (base : Base) × ComesOver index names games base
-comes-over strict index names games (inl f) none = absurd (none f.0 f.1)
-comes-over strict index names games (inr b) none =
-    (b.0, over index names games b.0 b.1.0 (λ i less. passes_loosely strict b.0.names games i (entry_bytes index i) (b.1.1 i less)))
+pub comes-over : (strict : Bool) (faulty : Faulty) (index names games : List ℕ) → FaultOrBase strict index names games → ((fault : BaseFault) → FirstFault strict index names games fault → ⊥) →
+    (base : Base) × ComesOver faulty index names games base
+comes-over strict faulty index names games (inl f) none = absurd (none f.0 f.1)
+comes-over strict faulty index names games (inr b) none =
+    (b.0, over faulty index names games b.0 b.1.0 (λ i less. passes_loosely strict b.0.names games i (entry_bytes index i) (b.1.1 i less)))

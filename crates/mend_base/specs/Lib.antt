@@ -1,6 +1,8 @@
 pub mod Entries
 pub mod Errors
 pub mod Fields
+pub mod Marks
+pub mod Fronts
 pub mod Finding
 pub mod Mending
 pub mod Notes

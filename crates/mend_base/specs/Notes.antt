@@ -9,6 +9,7 @@ use Rattle.base_core.specs.declared.fault.BaseFault.{BaseFault}
 use Rattle.base_core.specs.declared.fault.BaseFault.TheVariants.{Index}
 use Rattle.mend_base.specs.Entries.{entries_found, head_found}
 use Rattle.mend_base.specs.Places.{Place, places_of}
+use Rattle.mend_base.specs.declared.fronts.Faulty.{Faulty}
 use Rattle.mend_base.specs.declared.report.Note.{Note}
 use Rattle.mend_base.specs.declared.report.Note.TheVariants as line
 
@@ -45,13 +46,13 @@ notes_of_rest index header =
     else []
 
 -- All that is told. Nothing is told of an index that is not mended.
-abbrev pub notes_with : Result IndexHead IndexFault → List ℕ → PartLists → List ℕ → List Note
-notes_with (Err fault) index names games = []
-notes_with (Ok header) index names games =
-    notes_of_head index header ++ (notes_from 0 (places_of index names games (entries_found index)) ++ notes_of_rest index header)
+abbrev pub notes_with : Result IndexHead IndexFault → Faulty → List ℕ → PartLists → List ℕ → List Note
+notes_with (Err fault) faulty index names games = []
+notes_with (Ok header) faulty index names games =
+    notes_of_head index header ++ (notes_from 0 (places_of faulty index names games (entries_found index)) ++ notes_of_rest index header)
 
-abbrev pub all_notes : List ℕ → PartLists → List ℕ → List Note
-all_notes index names games = notes_with (head_found index) index names games
+abbrev pub all_notes : Faulty → List ℕ → PartLists → List ℕ → List Note
+all_notes faulty index names games = notes_with (head_found index) faulty index names games
 
 -- ---- what a report was told.
 

@@ -1,10 +1,11 @@
 -- What is whole of three files that may be faulty: one place for each entry, with the game or its first fault (this project's own, over Scid's
--- format si4). No game is left out for a field that stands for nothing, which is as if it was not given, nor for a name that is missing, which has
--- `?` in its place.
+-- format si4). A game whose record has a fault is left out, or comes over with what is saved of it. A field that stands for nothing is as if it was
+-- not given, and a name that is missing has `?` in its place: no game is left out for either.
 use Rattle.std.specs.Prelude.{◌+◌, ℕ, zero, suc, not, if◌then◌else◌, List, [], ◌∷◌, ◌++◌, length, Option, None, Some, is_some, Result, Ok, Err}
 use Rattle.base_files.specs.Extents.{record_in}
-use Rattle.cell_core.specs.Steps.{blamed, ◌>>=◌}
+use Rattle.cell_core.specs.Steps.{◌>>=◌}
 use Rattle.game_codec.specs.RecordAnswer.{record_answer}
+use Rattle.game_codec.specs.declared.fault.RecordFault.{RecordFault}
 use Rattle.game_tree.specs.Game.{GameTree}
 use Rattle.game_tree.specs.Settle.{settled}
 use Rattle.game_tree.specs.declared.head.Tag.{Tag}
@@ -24,6 +25,8 @@ use Rattle.base_core.specs.declared.fault.BaseFault.TheVariants.{EntryField, Id,
 use Rattle.base_core.specs.declared.fault.IdField.{IdField}
 use Rattle.base_core.specs.declared.fault.IdField.TheVariants as id
 use Rattle.mend_base.specs.Fields.{known_in}
+use Rattle.mend_base.specs.Fronts.{Saved, saved_in, steps_of}
+use Rattle.mend_base.specs.declared.fronts.Faulty.{Faulty}
 
 -- A game that comes over, and the first fault for which it is changed.
 pub record Found : Type 0 where
@@ -61,18 +64,28 @@ change_in names game bytes = change_by game (fault_in bytes) (missing_in names (
 abbrev pub placed : ℕ → ℕ → Entry → Result Entry BaseFault
 placed end game e = unless (λ what. PlaceFault game what) (place_fault end e) (Ok e)
 
--- The place of a game with this entry: the first fault of the place of its record, or of its record; or the game, without the fields that stand for
--- nothing, and with `?` for each name that is missing.
-unfoldable pub place_of : PartLists → List ℕ → ℕ → List ℕ → Place
-place_of names games game bytes = do
+-- The place of a game whose record has this first fault: with what is saved of its record, or the fault where nothing is.
+abbrev pub saved_place : PartLists → ℕ → Entry → RecordFault → Option Saved → Place
+saved_place names game e fault None = Err (Packed game fault)
+saved_place names game e fault (Some saved) =
+    Ok (record { held = held_by (filled_names names) (record e { offset = 0; len = length saved.bytes }) saved.read; change = Some (Packed game fault) })
+
+-- The place of a game with this entry, by the answer to the bytes of its record.
+abbrev pub answered_place : Faulty → PartLists → ℕ → List ℕ → Entry → List ℕ → Result (List Tag × GameTree) RecordFault → Place
+answered_place faulty names game packed e bytes (Ok read) = Ok (record { held = held_by (filled_names names) e read; change = change_in names game packed })
+answered_place faulty names game packed e bytes (Err fault) = saved_place names game e fault (saved_in (steps_of faulty) bytes (Err fault))
+
+-- The place of a game with this entry: the game, without the fields that stand for nothing, and with `?` for each missing name. It is a fault if
+-- the record cannot stand where the entry says, or if nothing is saved of the record.
+unfoldable pub place_of : Faulty → PartLists → List ℕ → ℕ → List ℕ → Place
+place_of faulty names games game bytes = do
   e ← placed (length games) game (known_in bytes)
-  read ← blamed (λ what. Packed game what) (record_answer (record_in games (extent_of e)))
-  Ok (record { held = held_by (filled_names names) e read; change = change_in names game bytes })
+  answered_place faulty names game bytes e (record_in games (extent_of e)) (record_answer (record_in games (extent_of e)))
 
 -- The places of so many games, the first ones.
-abbrev pub places_of : List ℕ → PartLists → List ℕ → ℕ → List Place
-places_of index names games zero = []
-places_of index names games (suc n) = places_of index names games n ++ place_of names games n (entry_bytes index n) ∷ []
+abbrev pub places_of : Faulty → List ℕ → PartLists → List ℕ → ℕ → List Place
+places_of faulty index names games zero = []
+places_of faulty index names games (suc n) = places_of faulty index names games n ++ place_of faulty names games n (entry_bytes index n) ∷ []
 
 -- ---- what comes of the places.
 

@@ -1,54 +1,62 @@
 //! Looking for a game in files that may be faulty.
-ghost use Rattle.std.specs.Prelude.{◌≡◌, ◌≤◌, ◌<◌, ◌+◌, ◌*◌, ◌^◌, length, IfOk, OnErr, IfSome};
-ghost use Rattle.base_files.specs.Counters.{Rose};
-ghost use Rattle.base_files.specs.Told.{Tells, TellsLength, part_told};
+ghost use Rattle.std.specs.Prelude.{◌≡◌, ◌≤◌, ◌+◌, length, take, IfErr, IfOk};
+ghost use Rattle.base_files.specs.Told.{TellsLength};
 ghost use Rattle.index_entry.specs.Entry.{IsEntry};
 ghost use Rattle.index_entry.specs.Index.{entry_bytes};
 ghost use Rattle.mend_base.specs.Fields.{known_in};
-ghost use Rattle.mend_base.specs.Finding.{Finds, HasEntry, IsFoundIn, IsKeepable, entry_cost};
+ghost use Rattle.mend_base.specs.Devices.{IsOld};
+ghost use Rattle.mend_base.specs.Finding.{Finds, FindsLeft, HasEntry, IsKeepable, entry_cost};
 ghost use Rattle.mend_base.specs.Places.{change_by, change_in, missing_in};
+ghost use Rattle.mend_base.specs.declared.fault.MendError.TheVariants as error;
 
+use crate::fault::MendError;
 use crate::fields::said_by;
+use crate::fronts::{Faulty, save};
 use base_core::{BaseFault, IdField, mended_entry, misplaced};
-use base_files::{Failed, Files};
+use base_files::Files;
+use game_codec::RecordFault;
 use index_entry::{Entry, EntryFault, entry_of};
 use name_base::{NameKind, PartNames};
+use std::alloc::Global;
 
-/// What was read of the old base before its records: the bytes of its index, its names as far as they go, and the end of its games file.
+/// What was read of the old base before its records: the bytes of its index, its names as far as they go, the end of its games file,
+/// and what becomes of a game whose record has a fault.
 #[derive(Clone, Copy)]
 pub(crate) struct Source<'a> {
     pub(crate) index: &'a [u8],
     pub(crate) names: &'a PartNames,
     pub(crate) end: u64,
+    pub(crate) faulty: Faulty,
 }
 
 /// What was found of a game.
 #[derive(Clone, Copy, Drop)]
 pub(crate) enum Find {
-    /// It is whole. Its entry has the derived fields of its record, which stands in the front of the buffer; and the first fault for which
+    /// It comes over. Its entry has the derived fields of its record, which stands in the front of the buffer; and the first fault for which
     /// the game is changed.
     Whole(Entry, Option<BaseFault>),
-    /// It has this first fault.
+    /// It is left out, for this first fault.
     Broken(BaseFault),
 }
 
 /// Looks for a game that has an entry. Its record is read into `buf`.
 pub(crate) fn find_game<F: Files>(
+    alloc: Global,
     source: &Source<'_>,
     game: u32,
     old: &mut F,
     buf: &mut [u8],
-) -> Result<Find, Failed>
+) -> Result<Find, MendError>
     requires there { HasEntry source.now.index.now game }
     requires room { 131072 ≤ length buf.old }
     requires known { source.now.end ≤ (F.seen old.old).known }
     requires told { TellsLength (F.seen old.old).games source.now.end }
-    ensures found { IfOk result (λ find. Finds source.now.index.now source.now.names.now (F.seen old.old).games game buf.new find) }
+    ensures found { IfOk result (λ find. Finds source.now.faulty source.now.index.now source.now.names.now (F.seen old.old).games game buf.new find) }
     ensures keepable { IfOk result IsKeepable }
     ensures asks { F.asked old.new ≤ F.asked old.old + entry_cost source.now.index.now game }
     ensures unchanged { F.seen old.new ≡ F.seen old.old }
     ensures counts { F.faults old.old ≤ F.faults old.new }
-    ensures cause { OnErr result (Rose (F.faults old.old) (F.faults old.new)) }
+    ensures cause { IfErr result (IsOld (F.faults old.old) (F.faults old.new)) }
 {
     let (entry, change) = entry_of_game(source, game);
     if let Some(what) = misplaced(&entry, source.end) {
@@ -58,9 +66,35 @@ pub(crate) fn find_game<F: Files>(
         .read_games(u64::from(entry.offset), entry.len, buf)
         .is_err()
     {
-        return Err(Failed);
+        return Err(MendError::OldFailed);
     }
-    Ok(found_in(game, &entry, change, &buf[..entry.len as usize]))
+    match mended_entry(&entry, &buf[..entry.len as usize]) {
+        Ok(kept) => Ok(Find::Whole(kept, change)),
+        Err(fault) => find_left(alloc, source.faulty, game, &entry, fault, buf),
+    }
+}
+
+// What is found of a game whose record, in the front of the buffer, has this first fault.
+fn find_left(
+    alloc: Global,
+    faulty: Faulty,
+    game: u32,
+    entry: &Entry,
+    fault: RecordFault,
+    buf: &mut [u8],
+) -> Result<Find, MendError>
+    requires fields { IsEntry entry.now }
+    requires room { 131072 ≤ length buf.old }
+    ensures found { IfOk result (FindsLeft faulty game entry.now (take entry.now.len buf.old) fault buf.new) }
+    ensures keepable { IfOk result IsKeepable }
+    ensures memory { IfErr result (λ e. e ≡ error.Memory) }
+{
+    let what = BaseFault::Packed { game, fault };
+    let Some(saved) = save(alloc, faulty, entry, &buf[..entry.len as usize], fault)? else {
+        return Ok(Find::Broken(what));
+    };
+    buf[..saved.bytes.len()].copy_from_slice(saved.bytes.as_slice());
+    Ok(Find::Whole(saved.kept, Some(what)))
 }
 
 // What the entry of a game says without what stands for nothing, and the first fault for which the game is changed.
@@ -84,19 +118,6 @@ fn change_by(game: u32, fault: Option<EntryFault>, missing: Option<IdField>) -> 
     }
     let field = missing?;
     Some(BaseFault::Id { game, field })
-}
-
-// What the bytes of the record of a game say.
-fn found_in(game: u32, entry: &Entry, change: Option<BaseFault>, bytes: &[u8]) -> Find
-    requires fields { IsEntry entry.now }
-    requires few { length bytes.now < 2 ^ 32 }
-    ensures found { IsFoundIn game entry.now change bytes.now result }
-    ensures keepable { IsKeepable result }
-{
-    match mended_entry(entry, bytes) {
-        Ok(kept) => Find::Whole(kept, change),
-        Err(fault) => Find::Broken(BaseFault::Packed { game, fault }),
-    }
 }
 
 // The first of the ids of an entry that no name has.

@@ -25,7 +25,7 @@ use index_entry::Entry;
 use name_base::PartNames;
 use std::alloc::Global;
 
-/// Looks for a game, takes it into the draft and adds its record to the new games file if it is whole, and tells what becomes of it if it
+/// Looks for a game, takes it into the draft and adds its record to the new games file if it comes over, and tells what becomes of it if it
 /// does not come over as it is. Gives how many games are changed: this one or none.
 pub(crate) fn mend_game<F: Files, N: Files, R: Report>(
     alloc: Global,
@@ -43,12 +43,12 @@ pub(crate) fn mend_game<F: Files, N: Files, R: Report>(
     requires told { TellsLength (F.seen old.old).games source.now.end }
     requires few { length draft.old.entries < 16777214 }
     ensures mended { IfOk result (λ changed. IfSome (F.seen old.old).games (λ games.
-        MendsNext game source.now.index.now source.now.names.now games (R.told report.old) (R.told report.new) changed draft.old draft.new (N.seen new.old).fresh (N.seen new.new).fresh)) }
+        MendsNext game source.now.faulty source.now.index.now source.now.names.now games (R.told report.old) (R.told report.new) changed draft.old draft.new (N.seen new.old).fresh (N.seen new.new).fresh)) }
     ensures one { IfOk result (λ changed. changed ≤ 1) }
     ensures few { OnOk result (length draft.new.entries ≤ length draft.old.entries + 1) }
     ensures none_told { OnErr result (R.told report.new ≡ R.told report.old) }
     ensures why { IfErr result (WhyStopped (λ what. IfSome (F.seen old.old).games (λ games.
-        FillsNext game source.now.index.now source.now.names.now games (R.told report.old) draft.old (N.seen new.old).fresh what))) }
+        FillsNext game source.now.faulty source.now.index.now source.now.names.now games (R.told report.old) draft.old (N.seen new.old).fresh what))) }
     ensures alone { FreshAlone (N.seen new.old) (N.seen new.new) }
     ensures unchanged { F.seen old.new ≡ F.seen old.old }
     ensures asks { F.asked old.new ≤ F.asked old.old + entry_cost source.now.index.now game }
@@ -59,7 +59,7 @@ pub(crate) fn mend_game<F: Files, N: Files, R: Report>(
     ensures cause { IfErr result (HasRisen (record { old = F.faults old.old; new = N.faults new.old; report = R.faults report.old })
         (record { old = F.faults old.new; new = N.faults new.new; report = R.faults report.new })) }
 {
-    match find_game(source, game, old, buf) {
+    match find_game(alloc, source, game, old, buf) {
         Ok(Find::Whole(kept, change)) => {
             let bytes = &buf[..kept.len as usize];
             if let Err(error) = keep_game(alloc, source.names, &kept, bytes, draft, new) {
@@ -73,7 +73,7 @@ pub(crate) fn mend_game<F: Files, N: Files, R: Report>(
             }
             Ok(0)
         }
-        Err(_) => Err(MendError::OldFailed),
+        Err(error) => Err(error),
     }
 }
 

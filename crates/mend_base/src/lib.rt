@@ -5,13 +5,18 @@ mod devices;
 mod fault;
 mod fields;
 mod finding;
+mod fronts;
 mod heading;
 mod keeping;
 mod laws;
+mod marks;
 mod mending;
 mod report;
 
 pub use fault::MendError;
-pub use laws::{faultless_files_come_over_whole, sound_bases_come_over};
+pub use fronts::Faulty;
+pub use laws::{
+    faultless_files_come_over_whole, sound_bases_come_over, whole_games_stay_as_they_are,
+};
 pub use mending::{Mended, mend};
 pub use report::{Note, Report};

@@ -16,6 +16,7 @@ ghost use Rattle.mend_base.specs.Places.{places_of};
 use crate::devices::{Loaded, begin, commit, load};
 use crate::fault::MendError;
 use crate::finding::Source;
+use crate::fronts::Faulty;
 use crate::heading::{entries_found, find_header, tell_header, tell_rest};
 use crate::keeping::mend_game;
 use crate::report::Report;
@@ -48,6 +49,7 @@ pub struct Mended {
 /// The current files of the new base are then as they were.
 pub fn mend<F: Files, N: Files, R: Report>(
     alloc: Global,
+    faulty: Faulty,
     old: &mut F,
     new: &mut N,
     report: &mut R,
@@ -56,15 +58,15 @@ pub fn mend<F: Files, N: Files, R: Report>(
     requires room { 131072 ≤ length buf.old }
     // The new files mean the base of the games that come over, in order, and all else is told of, each with its first fault.
     ensures mended { IfOk result (λ mended. IfTold (F.seen old.old) (λ index names games.
-        Mends index (names_in_part names) games (R.told report.old) (R.told report.new) (N.seen new.new) mended)) }
-    ensures why { IfErr result (λ error. IfTold (F.seen old.old) (λ index names games. WhyNotMended index (names_in_part names) games error)) }
+        Mends faulty index (names_in_part names) games (R.told report.old) (R.told report.new) (N.seen new.new) mended)) }
+    ensures why { IfErr result (λ error. IfTold (F.seen old.old) (λ index names games. WhyNotMended faulty index (names_in_part names) games error)) }
     // Whatever happens, the old files are as they were.
     ensures untouched { F.seen old.new ≡ measured (F.seen old.new).known (F.seen old.old) }
     // All three new files are made at once, or none.
     ensures made { OnOk result (IsMade (N.seen new.old) (N.seen new.new)) }
     ensures left { OnErr result (FreshAlone (N.seen new.old) (N.seen new.new)) }
     ensures began { OnErr result (IfTold (F.seen old.old) (λ index names games.
-        Began (all_notes index (names_in_part names) games) (R.told report.old) (R.told report.new))) }
+        Began (all_notes faulty index (names_in_part names) games) (R.told report.old) (R.told report.new))) }
     // Each record is asked for once at most.
     ensures asks { IfSome (F.seen old.old).index (λ index. F.asked old.new ≤ F.asked old.old + mend_cost index) }
     ensures none_asked { N.asked new.new ≡ N.asked new.old }
@@ -78,12 +80,13 @@ pub fn mend<F: Files, N: Files, R: Report>(
         Ok(loaded) => loaded,
         Err(error) => return Err(error),
     };
-    mend_loaded(alloc, &loaded, old, new, report, buf)
+    mend_loaded(alloc, faulty, &loaded, old, new, report, buf)
 }
 
 // Mends the base of which this is loaded.
 fn mend_loaded<F: Files, N: Files, R: Report>(
     alloc: Global,
+    faulty: Faulty,
     loaded: &Loaded,
     old: &mut F,
     new: &mut N,
@@ -94,13 +97,13 @@ fn mend_loaded<F: Files, N: Files, R: Report>(
     requires known { loaded.now.end ≡ (F.seen old.old).known }
     requires told { TellsLength (F.seen old.old).games loaded.now.end }
     ensures mended { IfOk result (λ mended. IfSome (F.seen old.old).games (λ games.
-        Mends loaded.now.index.items (names_in_part loaded.now.names.items) games (R.told report.old) (R.told report.new) (N.seen new.new) mended)) }
+        Mends faulty loaded.now.index.items (names_in_part loaded.now.names.items) games (R.told report.old) (R.told report.new) (N.seen new.new) mended)) }
     ensures why { IfErr result (λ error. IfSome (F.seen old.old).games (λ games.
-        WhyNotMended loaded.now.index.items (names_in_part loaded.now.names.items) games error)) }
+        WhyNotMended faulty loaded.now.index.items (names_in_part loaded.now.names.items) games error)) }
     ensures made { OnOk result (IsMade (N.seen new.old) (N.seen new.new)) }
     ensures left { OnErr result (FreshAlone (N.seen new.old) (N.seen new.new)) }
     ensures began { OnErr result (IfSome (F.seen old.old).games (λ games.
-        Began (all_notes loaded.now.index.items (names_in_part loaded.now.names.items) games) (R.told report.old) (R.told report.new))) }
+        Began (all_notes faulty loaded.now.index.items (names_in_part loaded.now.names.items) games) (R.told report.old) (R.told report.new))) }
     ensures unchanged { F.seen old.new ≡ F.seen old.old }
     ensures asks { F.asked old.new ≤ F.asked old.old + mend_cost loaded.now.index.items }
     ensures none_asked { N.asked new.new ≡ N.asked new.old }
@@ -119,6 +122,7 @@ fn mend_loaded<F: Files, N: Files, R: Report>(
         index: loaded.index.as_slice(),
         names: &names,
         end: loaded.end,
+        faulty,
     };
     mend_source(alloc, &source, &header, old, new, report, buf)
 }
@@ -140,12 +144,12 @@ fn mend_source<F: Files, N: Files, R: Report>(
     requires known { source.now.end ≤ (F.seen old.old).known }
     requires told { TellsLength (F.seen old.old).games source.now.end }
     ensures mended { IfOk result (λ mended. IfSome (F.seen old.old).games (λ games.
-        Mends source.now.index.now source.now.names.now games (R.told report.old) (R.told report.new) (N.seen new.new) mended)) }
-    ensures why { IfErr result (λ error. IfSome (F.seen old.old).games (λ games. WhyNotMended source.now.index.now source.now.names.now games error)) }
+        Mends source.now.faulty source.now.index.now source.now.names.now games (R.told report.old) (R.told report.new) (N.seen new.new) mended)) }
+    ensures why { IfErr result (λ error. IfSome (F.seen old.old).games (λ games. WhyNotMended source.now.faulty source.now.index.now source.now.names.now games error)) }
     ensures made { OnOk result (IsMade (N.seen new.old) (N.seen new.new)) }
     ensures left { OnErr result (FreshAlone (N.seen new.old) (N.seen new.new)) }
     ensures began { OnErr result (IfSome (F.seen old.old).games (λ games.
-        Began (all_notes source.now.index.now source.now.names.now games) (R.told report.old) (R.told report.new))) }
+        Began (all_notes source.now.faulty source.now.index.now source.now.names.now games) (R.told report.old) (R.told report.new))) }
     ensures unchanged { F.seen old.new ≡ F.seen old.old }
     ensures asks { F.asked old.new ≤ F.asked old.old + mend_cost source.now.index.now }
     ensures none_asked { N.asked new.new ≡ N.asked new.old }
@@ -192,10 +196,10 @@ fn mend_games<F: Files, N: Files, R: Report>(
     requires known { source.now.end ≤ (F.seen old.old).known }
     requires told { TellsLength (F.seen old.old).games source.now.end }
     ensures mended { IfOk result (λ mended. IfSome (F.seen old.old).games (λ games.
-        HasMended (entries_found source.now.index.now) header.now source.now.index.now source.now.names.now games (R.told report.old) (R.told report.new) mended.1 mended.0 (N.seen new.new).fresh)) }
+        HasMended (entries_found source.now.index.now) header.now source.now.faulty source.now.index.now source.now.names.now games (R.told report.old) (R.told report.new) mended.1 mended.0 (N.seen new.new).fresh)) }
     ensures began { OnErr result (IfSome (F.seen old.old).games (λ games.
-        Began (notes_from 0 (places_of source.now.index.now source.now.names.now games (entries_found source.now.index.now))) (R.told report.old) (R.told report.new))) }
-    ensures why { IfErr result (WhyStopped (λ what. IfSome (F.seen old.old).games (λ games. IsTooMuch source.now.index.now source.now.names.now games what))) }
+        Began (notes_from 0 (places_of source.now.faulty source.now.index.now source.now.names.now games (entries_found source.now.index.now))) (R.told report.old) (R.told report.new))) }
+    ensures why { IfErr result (WhyStopped (λ what. IfSome (F.seen old.old).games (λ games. IsTooMuch source.now.faulty source.now.index.now source.now.names.now games what))) }
     ensures alone { FreshAlone (N.seen new.old) (N.seen new.new) }
     ensures unchanged { F.seen old.new ≡ F.seen old.old }
     ensures asks { F.asked old.new ≤ F.asked old.old + mend_cost source.now.index.now }

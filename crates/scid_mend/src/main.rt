@@ -1,4 +1,4 @@
-//! `scid_mend OLD NEW`: makes the Scid base NEW of every game of OLD that is whole, and says on standard output what becomes of the others.
+//! `scid_mend [--fronts] OLD NEW`: makes the Scid base NEW of every game of OLD that is whole, and says on standard output what becomes of the others.
 #![tactic(auto)]
 
 ghost use Rattle.std.specs.Prelude.{◌≡◌, MatchResult};
@@ -15,7 +15,7 @@ use absent::{Absent, PartFiles};
 use back::put_back;
 use base_files::Files;
 use left_over::take_away_left_over;
-use mend_base::mend;
+use mend_base::{Faulty, mend};
 use messages::{HELP, VERSION, message};
 use printer::Printer;
 use status::Status;
@@ -51,7 +51,10 @@ fn answer(rt: &HostRuntime, words: &[String]) -> Status {
         [word] if word.as_str() == "--help" => printed(print!(rt; "{HELP}")),
         [word] if word.as_str() == "--version" => printed(print!(rt; "{VERSION}")),
         [word, base] if word.as_str() == "--back" && is_name(base) => put_back(rt, base),
-        [old, new] if is_name(old) && is_name(new) => run(rt, old, new),
+        [old, new] if is_name(old) && is_name(new) => run(rt, Faulty::LeftOut, old, new),
+        [word, old, new] if word.as_str() == "--fronts" && is_name(old) && is_name(new) => {
+            run(rt, Faulty::Fronts, old, new)
+        }
         _ => Status::Usage,
     }
 }
@@ -73,7 +76,7 @@ fn printed(outcome: io::Result<()>) -> Status
 
 /// Opens the old base, and mends it. If its names or its games are absent, they are as files of no bytes, and a message
 /// tells it.
-fn run(rt: &HostRuntime, old: &str, new: &str) -> Status {
+fn run(rt: &HostRuntime, faulty: Faulty, old: &str, new: &str) -> Status {
     let absent = match Absent::of_base(rt, old) {
         Ok(absent) => absent,
         Err(status) => return status,
@@ -81,16 +84,33 @@ fn run(rt: &HostRuntime, old: &str, new: &str) -> Status {
     let line = ProgressLine::of_mending(rt);
     if absent.is_any() {
         let files = PartFiles::new(rt, absent);
-        run_over(rt, Watched::new(files, &line), old, new, absent, &line)
+        run_over(
+            rt,
+            faulty,
+            Watched::new(files, &line),
+            old,
+            new,
+            absent,
+            &line,
+        )
     } else {
         let files = DiskFiles::of_faulty_base(rt.alloc(), rt);
-        run_over(rt, Watched::new(files, &line), old, new, absent, &line)
+        run_over(
+            rt,
+            faulty,
+            Watched::new(files, &line),
+            old,
+            new,
+            absent,
+            &line,
+        )
     }
 }
 
 /// Makes the files of the new base, mends, and takes them away again where that fails.
 fn run_over<F: Files + Drop>(
     rt: &HostRuntime,
+    faulty: Faulty,
     mut old_files: F,
     old: &str,
     new: &str,
@@ -104,7 +124,15 @@ fn run_over<F: Files + Drop>(
         return status;
     }
     let mut new_files = Watched::new(DiskFiles::of_new_base(rt.alloc(), rt), line);
-    let outcome = mend_files(rt, &mut old_files, &mut new_files, new, absent, line);
+    let outcome = mend_files(
+        rt,
+        faulty,
+        &mut old_files,
+        &mut new_files,
+        new,
+        absent,
+        line,
+    );
     line.clear();
     let mut new_files = new_files.into_device();
     match outcome {
@@ -122,6 +150,7 @@ fn run_over<F: Files + Drop>(
 /// Mends the old base into the new one, and says how many games came over.
 fn mend_files<F: Files, N: Files>(
     rt: &HostRuntime,
+    faulty: Faulty,
     old: &mut F,
     new: &mut N,
     name: &str,
@@ -145,7 +174,14 @@ fn mend_files<F: Files, N: Files>(
     if printer.tell_absent(absent).is_err() {
         return Err(Status::WriteFault);
     }
-    match mend(rt.alloc(), old, new, &mut printer, buf.as_mut_slice()) {
+    match mend(
+        rt.alloc(),
+        faulty,
+        old,
+        new,
+        &mut printer,
+        buf.as_mut_slice(),
+    ) {
         Ok(mended) => Ok(Status::of_mended(mended, printer.end(mended))),
         Err(error) => {
             let _ = printer.flush();

@@ -6,7 +6,7 @@ use crate::status::Status;
 
 /// The answer to `--help`.
 pub const HELP: &str = "\
-usage: scid_mend OLD NEW
+usage: scid_mend [--fronts] OLD NEW
        scid_mend --back BASE
 
 Makes the Scid base NEW.si4, NEW.sn4, NEW.sg4 of every game of the base OLD
@@ -26,6 +26,10 @@ game, with its first fault:
   index file: FAULT; its entries are tried
 
 and at the end `mended G of N games, C changed`.
+
+With --fronts a game comes over too whose record has a fault, as changed: each
+line with a fault, the main line or a variation, ends before its first fault,
+with a comment that says so.
 
 With --back it puts right what a run left beside BASE that was broken off: it
 puts the files back that a compact had set aside, or finishes a compact whose
@@ -49,7 +53,7 @@ pub fn message(status: &Status) -> &'static str
         Status::WriteFault => "write fault",
         Status::FilesFault => "files fault",
         Status::Memory => "out of memory",
-        Status::Usage => "usage: scid_mend OLD NEW",
+        Status::Usage => "usage: scid_mend [--fronts] OLD NEW",
         Status::Full(_) => "full ",
     }
 }
