@@ -1,3 +1,4 @@
+use Rattle.std.proofs.Common.{sym}
 use Rattle.index_entry.proofs.HeaderLemmas.{header-long}
 use Rattle.mend_base.proofs.EntryLaws.{long-magic, long-version}
 use Rattle.mend_base.proofs.heading.find_header.Goals as goal
