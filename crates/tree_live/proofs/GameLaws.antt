@@ -1,23 +1,17 @@
--- Games by their marks, the changes that this counts, and the keys at which their rows differ.
+-- Games by their marks, games that stay, and a game that is added.
 use Rattle.std.proofs.Common.{◌≡◌, ℕ, zero, suc, ◌+◌, ◌<◌, ◌≤◌, ◌&&◌, ◌||◌, Bool, true, false, cond, List, [], ◌∷◌, ◌++◌, Option, Some, None, nat_lt, length, take, get_or, set, Result, Ok, Err, OnOk, option_to_list, length-append, refl, sym, ap, ◌∙◌, add-one, arith}
 use Rattle.std.proofs.lemmas.Bool.{false≢true, lt-ltb, le-ltb, ltb-true, ltb-false}
 use Rattle.std.proofs.lemmas.List.{set-get_or, set_at, get_or_default}
 use Rattle.std.proofs.lemmas.List.Elements.{All-nil, All-same}
-use Rattle.cell_core.specs.declared.step.Move.{Move}
 use Rattle.game_filter.specs.Renumbering.{renumbered}
 use Rattle.tree_rows.specs.declared.hit.GameHit.{GameHit}
 use Rattle.tree_rows.specs.declared.row.Row.{Row}
-use Rattle.tree_rows.specs.Keys.{same_key}
-use Rattle.tree_rows.specs.Rows.{IsHit, row_at, keys_of, rows_of}
-use Rattle.tree_rows.proofs.KeyLaws.{one-key}
+use Rattle.tree_rows.specs.Rows.{IsHit, rows_of}
 use Rattle.tree_live.specs.declared.entry.Entry.{Entry}
 use Rattle.tree_live.specs.declared.marks.Marks.{Marks}
 use Rattle.tree_live.specs.declared.marks.Marks.TheVariants.{Plies, Numbers}
-use Rattle.tree_live.specs.Views.{Shows}
-use Rattle.tree_live.specs.Watching.{counted, hits_in, changes, all_changes, all_out, wanted, by_marks, with_game}
-use Rattle.tree_live.specs.Keeping.{is_among, noted, Tells, DifferAt, Sums, entry_at, marked, no_game, reaching}
-use Rattle.tree_live.proofs.HitLaws.{no-change, hits-push}
-use Rattle.tree_live.proofs.ViewLaws.{or-false, among-push}
+use Rattle.tree_live.specs.Watching.{counted, hits_in, all_out, wanted, by_marks, with_game}
+use Rattle.tree_live.specs.Keeping.{Sums, entry_at, marked, no_game, reaching}
 
 -- ---- marks
 
@@ -41,95 +35,6 @@ pub length-marks : (marks : Marks) (list : List (Option ℕ)) (games : List Entr
 length-marks marks [] games = refl
 length-marks marks (m ∷ list) [] = refl
 length-marks marks (m ∷ list) (g ∷ games) = omega (arith, length-marks marks list games)
-
--- ---- changes
-
-pub no-changes-at-all : (games : List Entry) → all_changes games games ≡ 0
-no-changes-at-all [] = refl
-no-changes-at-all (g ∷ games) = omega (arith, no-change (counted g), no-changes-at-all games)
-
-pub changes-set : (games now : List Entry) (i : ℕ) (game : Entry) → i < length games → length now ≡ length games → entry_at now i ≡ entry_at games i
-    → all_changes games (set now i game) ≡ all_changes games now + changes (counted (entry_at games i)) (counted game)
-changes-set [] now i game below same at = absurd (omega (arith, below))
-changes-set (g ∷ games) [] i game below same at = absurd (omega (arith, same))
-changes-set (g ∷ games) (n ∷ now) zero game below same at =
-    let none : changes (counted g) (counted n) ≡ 0 = ap (λ (e : Entry). changes (counted g) (counted e)) at ∙ no-change (counted g) in
-    omega (arith, none)
-changes-set (g ∷ games) (n ∷ now) (suc i) game below same at =
-    omega (arith, changes-set games now i game (omega (arith, below)) (omega (arith, same)) at)
-
-pub changes-push : (games : List Entry) (game : Entry) → all_changes games (games ++ game ∷ []) ≡ changes None (counted game)
-changes-push [] game = omega arith
-changes-push (g ∷ games) game = omega (arith, no-change (counted g), changes-push games game)
-
--- games of which none was in: each that comes in is a change
-come-in : (c : Option GameHit) → changes None c ≡ length (option_to_list c)
-come-in None = refl
-come-in (Some hit) = refl
-
-pub changes-in : (hits : List (Option GameHit)) (marks : Marks) (list : List (Option ℕ))
-    → all_changes (all_out hits) (by_marks marks list (all_out hits)) ≤ length (hits_in (by_marks marks list (all_out hits)))
-changes-in [] marks [] = omega arith
-changes-in [] marks (m ∷ list) = omega arith
-changes-in (hit ∷ hits) marks [] = omega (arith, no-changes-at-all (all_out (hit ∷ hits)))
-changes-in (hit ∷ hits) marks (m ∷ list) =
-    let first : Entry = marked marks (record { hit = hit; is_in = false }) m in
-    omega (
-      arith,
-      come-in (counted first),
-      changes-in hits marks list,
-      length-append (option_to_list (counted first)) (hits_in (by_marks marks list (all_out hits))),
-    )
-
-pub no-hits-out : (hits : List (Option GameHit)) → hits_in (all_out hits) ≡ []
-no-hits-out [] = refl
-no-hits-out (hit ∷ hits) = no-hits-out hits
-
--- ---- keys that are noted
-
-or-true : (a : Bool) → a || true ≡ true
-or-true true = refl
-or-true false = refl
-
-noted-both : (key other : Option Move) (keys : List (Option Move)) → is_among other (noted key keys) ≡ false
-    → (is_among other keys ≡ false) × (same_key key other ≡ false)
-noted-both key other keys h = by (is_among key keys) refl
-  where
-    by : (b : Bool) → is_among key keys ≡ b → (is_among other keys ≡ false) × (same_key key other ≡ false)
-    by true e = let left : is_among other keys ≡ false = rw e at h in (left, apart (same_key key other) refl left)
-      where
-        apart : (b : Bool) → same_key key other ≡ b → is_among other keys ≡ false → b ≡ false
-        apart true f left = absurd (false≢true (sym left ∙ ap (λ (k : Option Move). is_among k keys) (sym (one-key key other f)) ∙ e))
-        apart false f left = refl
-    by false e =
-        let pushed : is_among other (keys ++ key ∷ []) ≡ false = rw e at h in
-        or-false (is_among other keys) (same_key key other) (sym (among-push other key keys) ∙ pushed)
-
-pub length-noted : (key : Option Move) (keys : List (Option Move)) → length (noted key keys) ≤ length keys + 1
-length-noted key keys = by (is_among key keys)
-  where
-    by : (b : Bool) → length (cond b keys (keys ++ key ∷ [])) ≤ length keys + 1
-    by true = omega arith
-    by false = omega (arith, length-append keys (key ∷ []))
-
--- a change at a key that is noted
-pub differ-more : (keys after : List (Option Move)) (base old now : List Entry) (key : Option Move) → after ≡ noted key keys
-    → ((other : Option Move) → same_key key other ≡ false → row_at other (rows_of (hits_in now)) ≡ row_at other (rows_of (hits_in old)))
-    → DifferAt keys base old → DifferAt after base now
-differ-more keys after base old now key is others differ =
-    λ other among.
-    let both = noted-both key other keys (ap (is_among other) (sym is) ∙ among) in
-    others other both.1 ∙ differ other both.0
-
--- ---- what a view shows
-
-pub shows-after : (keys : List (Option Move)) (old now : List Entry) (table shown after : List Row) → Shows (hits_in old) shown → DifferAt keys old now
-    → Tells keys table shown after → table ≡ rows_of (hits_in now) → Shows (hits_in now) after
-shows-after keys old now table shown after shows differ tells is = λ key. by key (is_among key keys) refl
-  where
-    by : (key : Option Move) (b : Bool) → is_among key keys ≡ b → row_at key after ≡ row_at key (rows_of (hits_in now))
-    by key true e = tells.own key e ∙ ap (row_at key) is
-    by key false e = tells.others key e ∙ shows key ∙ sym (differ key e)
 
 -- ---- games that stay
 
@@ -176,20 +81,6 @@ marks-more marks list old now after i below same so_far put =
     ∙ ap (λ (game : Entry). set (by_marks marks (take i list) old) i (marked marks game (get_or list i None))) (unmarked-at marks list old i)
     ∙ marked-at marks list old i None below same
     ∙ ap (λ (n : ℕ). by_marks marks (take n list) old) (sym (add-one i))
-
-pub few-more : (marks : Marks) (list : List (Option ℕ)) (old now after : List Entry) (i : ℕ) (game : Entry) (keys more : ℕ) → i < length list
-    → length list ≡ length old → now ≡ by_marks marks (take i list) old → after ≡ by_marks marks (take (i + 1) list) old
-    → after ≡ set now i game → keys ≤ all_changes old (by_marks marks (take i list) old)
-    → more ≤ keys + changes (counted (entry_at now i)) (counted game) → more ≤ all_changes old (by_marks marks (take (i + 1) list) old)
-few-more marks list old now after i game keys more below same so_far next put few grows =
-    let at : entry_at now i ≡ entry_at old i = ap (λ (games : List Entry). entry_at games i) so_far ∙ unmarked-at marks list old i in
-    let size : length now ≡ length old = ap (λ (games : List Entry). length games) so_far ∙ length-marks marks (take i list) old in
-    let sums = changes-set old now i game (omega (arith, below, same)) size at in
-    let same_game : changes (counted (entry_at now i)) (counted game) ≡ changes (counted (entry_at old i)) (counted game)
-    = ap (λ (e : Entry). changes (counted e) (counted game)) at in
-    let is_now : all_changes old now ≡ all_changes old (by_marks marks (take i list) old) = ap (all_changes old) so_far in
-    let is_next : all_changes old (by_marks marks (take (i + 1) list) old) ≡ all_changes old (set now i game) = ap (all_changes old) (sym next ∙ put) in
-    omega (arith, sums, same_game, is_now, is_next, few, grows)
 
 pub marks-none : (marks : Marks) (old : List Entry) (list : List (Option ℕ)) → old ≡ by_marks marks (take 0 list) old
 marks-none marks old [] = refl
@@ -239,6 +130,10 @@ renumbered-games to numbers games now given is =
 
 -- ---- games that are all out
 
+no-hits-out : (hits : List (Option GameHit)) → hits_in (all_out hits) ≡ []
+no-hits-out [] = refl
+no-hits-out (hit ∷ hits) = no-hits-out hits
+
 pub out-few : (hits : List (Option GameHit)) (i : ℕ) → length (all_out (take i hits)) ≤ length hits
 out-few [] zero = omega arith
 out-few [] (suc i) = omega arith
@@ -249,22 +144,6 @@ pub out-sums : (hits : List (Option GameHit)) (items : List Entry) (rows : List 
 out-sums hits items rows is none =
     let no_hits : hits_in items ≡ [] = ap hits_in is ∙ no-hits-out hits in
     record { summed = none ∙ ap rows_of (sym no_hits); ranges = All-same IsHit (hits_in items) [] no_hits (All-nil IsHit) }
-
-no-rows : rows_of [] ≡ []
-unfolding rows_of keys_of
-no-rows = refl
-
-pub none-shown : (hits : List (Option GameHit)) (games : List Entry) (rows : List Row) → rows ≡ [] → games ≡ all_out hits → Shows (hits_in games) rows
-none-shown hits games rows none is = λ key.
-    ap (row_at key) (none ∙ sym no-rows ∙ ap rows_of (sym (ap hits_in is ∙ no-hits-out hits)))
-
-pub attach-told : (hits slice : List (Option GameHit)) (filter : List (Option ℕ)) (games : List Entry) → games ≡ all_out slice → slice ≡ hits
-    → all_changes games (by_marks Plies filter games) ≤ length (hits_in (by_marks Plies filter (all_out hits)))
-attach-told hits slice filter games is same =
-    let all : games ≡ all_out hits = is ∙ ap all_out same in
-    let told : all_changes games (by_marks Plies filter games) ≡ all_changes (all_out hits) (by_marks Plies filter (all_out hits))
-    = ap (λ (list : List Entry). all_changes list (by_marks Plies filter list)) all in
-    omega (arith, told, changes-in hits Plies filter)
 
 -- ---- a game that is added
 
@@ -292,41 +171,8 @@ reaching-below games i within = by (nat_lt i (length games)) refl
     by true e = ltb-true i (length games) e
     by false e = omega (arith, within, length-append games (no_game ∷ []))
 
-pub reaching-hits : (games : List Entry) (i : ℕ) → hits_in (reaching i games) ≡ hits_in games
-reaching-hits games i = by (nat_lt i (length games))
-  where
-    by : (b : Bool) → hits_in (cond b games (games ++ no_game ∷ [])) ≡ hits_in games
-    by true = refl
-    by false = hits-push games
-
-pub reaching-changes : (games : List Entry) (i : ℕ) (game : Entry) → i ≤ length games
-    → all_changes games (with_game i game games) ≡ changes (counted (entry_at (reaching i games) i)) (counted game)
-reaching-changes games i game within = by (nat_lt i (length games)) refl
-  where
-    by : (b : Bool) → nat_lt i (length games) ≡ b
-        → all_changes games (cond b (set games i game) (games ++ game ∷ [])) ≡ changes (counted (entry_at (cond b games (games ++ no_game ∷ [])) i)) (counted game)
-    by true e =
-        let sums = changes-set games games i game (ltb-true i (length games) e) refl refl in
-        omega (arith, sums, no-changes-at-all games)
-    by false e =
-        let last : i ≡ length games = omega (arith, within, ltb-false i (length games) e) in
-        let none : entry_at (games ++ no_game ∷ []) i ≡ no_game = ap (entry_at (games ++ no_game ∷ [])) last ∙ pushed-at games in
-        changes-push games game ∙ ap (λ (g : Entry). changes (counted g) (counted game)) (sym none)
-
 -- one game has changed
 pub changed-games : (games there now : List Entry) (i place : ℕ) (game : Entry) → place ≡ i → i ≤ length games → there ≡ reaching place games
     → now ≡ set there place game → now ≡ with_game i game games
 changed-games games there now i place game is within reach put =
     put ∙ ap (λ (list : List Entry). set list place game) reach ∙ ap (λ (n : ℕ). set (reaching n games) n game) is ∙ reaching-games games i game within
-
-pub changed-differ : (games there : List Entry) (place : ℕ) → there ≡ reaching place games → DifferAt [] games there
-changed-differ games there place reach = λ key among.
-    ap (λ (hits : List GameHit). row_at key (rows_of hits)) (ap hits_in reach ∙ reaching-hits games place)
-
-pub changed-told : (games there : List Entry) (i place : ℕ) (game : Entry) → place ≡ i → i ≤ length games → there ≡ reaching place games
-    → changes (counted (entry_at there place)) (counted game) ≤ all_changes games (with_game i game games)
-changed-told games there i place game is within reach =
-    let at : changes (counted (entry_at there place)) (counted game) ≡ changes (counted (entry_at (reaching i games) i)) (counted game)
-    = ap (λ (list : List Entry). changes (counted (entry_at list place)) (counted game)) reach
-    ∙ ap (λ (n : ℕ). changes (counted (entry_at (reaching n games) n)) (counted game)) is in
-    omega (arith, at, reaching-changes games i game within)

@@ -41,12 +41,6 @@ one-outcome Unknown White h = absurd (false≢true h)
 one-outcome Unknown Draw h = absurd (false≢true h)
 one-outcome Unknown Black h = absurd (false≢true h)
 
-outcome-itself : (a : Outcome) → same_outcome a a ≡ true
-outcome-itself White = refl
-outcome-itself Draw = refl
-outcome-itself Black = refl
-outcome-itself Unknown = refl
-
 one-hit : (a b : GameHit) → same_hit a b ≡ true → a ≡ b
 one-hit a b h =
     let years = and-both _ (a.year == b.year) h in
@@ -60,28 +54,11 @@ one-hit a b h =
     let year = eqb-true a.year b.year years.1 in
     λ i. record { next = next i; result = result i; mover = mover i; other = other i; year = year i }
 
-hit-itself : (a : GameHit) → same_hit a a ≡ true
-hit-itself a =
-    rw ((told-apart a.next a.next).1 refl, outcome-itself a.result, eq-eqb a.mover a.mover refl, eq-eqb a.other a.other refl, eq-eqb a.year a.year refl) refl
-
 pub one-counted : (a b : Option GameHit) → same_counted a b ≡ true → a ≡ b
 one-counted None None h = refl
 one-counted (Some a) (Some b) h = ap Some (one-hit a b h)
 one-counted None (Some b) h = absurd (false≢true h)
 one-counted (Some a) None h = absurd (false≢true h)
-
-counted-itself : (a : Option GameHit) → same_counted a a ≡ true
-counted-itself None = refl
-counted-itself (Some a) = hit-itself a
-
-pub no-change : (a : Option GameHit) → changes a a ≡ 0
-no-change a = rw (counted-itself a) refl
-
-pub no-changes : (a b : Option GameHit) → true ≡ same_counted a b → changes a b ≡ 0
-no-changes a b h = rw (sym h) refl
-
-pub two-changes : (a b : Option GameHit) → false ≡ same_counted a b → changes a b ≡ length (option_to_list a) + length (option_to_list b)
-two-changes a b h = rw (sym h) refl
 
 -- ---- the hits before a game and behind it
 
@@ -166,13 +143,6 @@ leaves-sums games i hit rows after below is sums drops =
       ranges = All-same IsHit _ _ later (ranges-without (before games i) (behind games i) hit (All-same IsHit _ _ (sym now) sums.ranges));
     }
 
-pub leaves-others : (games : List Entry) (i : ℕ) (hit : GameHit) (key : Option Move) → i < length games → counted (entry_at games i) ≡ Some hit
-    → same_key hit.next key ≡ false → row_at key (rows_of (hits_in (set games i no_game))) ≡ row_at key (rows_of (hits_in games))
-leaves-others games i hit key below is not =
-    ap (λ (hits : List GameHit). row_at key (rows_of hits)) (hits-with games i no_game None below refl)
-    ∙ sym (other-rows (before games i) (behind games i) hit key not)
-    ∙ ap (λ (hits : List GameHit). row_at key (rows_of hits)) (sym (hits-at games i (Some hit) below is))
-
 -- ---- a game that comes in
 
 out-counts : (games : List Entry) (i : ℕ) → entry_at games i ≡ no_game → counted (entry_at games i) ≡ None
@@ -206,13 +176,6 @@ enters-sums games i game hit rows after below out is sums range adds =
       summed = adds (before games i) (behind games i) (sums.summed ∙ ap rows_of now) ∙ ap rows_of (sym later);
       ranges = All-same IsHit _ _ later (ranges-with (before games i) (behind games i) hit (All-same IsHit _ _ (sym now) sums.ranges) range);
     }
-
-pub enters-others : (games : List Entry) (i : ℕ) (game : Entry) (hit : GameHit) (key : Option Move) → i < length games → entry_at games i ≡ no_game
-    → counted game ≡ Some hit → same_key hit.next key ≡ false → row_at key (rows_of (hits_in (set games i game))) ≡ row_at key (rows_of (hits_in games))
-enters-others games i game hit key below out is not =
-    ap (λ (hits : List GameHit). row_at key (rows_of hits)) (hits-with games i game (Some hit) below is)
-    ∙ other-rows (before games i) (behind games i) hit key not
-    ∙ ap (λ (hits : List GameHit). row_at key (rows_of hits)) (sym (hits-at games i None below (out-counts games i out)))
 
 -- a game of which the same is counted
 pub same-sums : (games : List Entry) (i : ℕ) (game : Entry) (rows : List Row) → i < length games → counted game ≡ counted (entry_at games i)

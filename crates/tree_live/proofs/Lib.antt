@@ -1,6 +1,7 @@
 mod ViewLaws
 mod HitLaws
 mod GameLaws
+mod ChangeLaws
 mod SlotLaws
 mod RowChangeLaws
 pub mod HeldLaws

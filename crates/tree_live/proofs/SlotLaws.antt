@@ -1,19 +1,20 @@
--- A change that is brought to one slot after the other.
-use Rattle.std.proofs.Common.{◌≡◌, ℕ, ◌+◌, ◌<◌, ◌≤◌, ◌==◌, Bool, true, false, zero, suc, nat_lt, List, [], ◌∷◌, Option, Some, None, length, option_map, replicate, set, refl, sym, ap, subst, ◌∙◌, arith}
-use Rattle.std.proofs.lemmas.Bool.{eqb-true, eqb-false, ltb-true, ltb-false}
-use Rattle.std.proofs.lemmas.List.{get_or_past, get_or-set_same, get_or-set_other, length-set}
+-- A change that is brought to each watch and then told to its view.
+use Rattle.std.proofs.Common.{◌≡◌, ℕ, ◌+◌, ◌<◌, ◌≤◌, ◌==◌, Bool, true, false, zero, suc, nat_lt, List, [], ◌∷◌, Option, Some, None, IfSome, length, option_map, replicate, set, refl, sym, ap, subst, ◌∙◌, arith}
+use Rattle.std.proofs.lemmas.Bool.{eqb-false, eqb-true, ltb-true, ltb-false}
+use Rattle.std.proofs.lemmas.List.{get_or_past, get_or-set_other, get_or-set_same}
+use Rattle.std.specs.Option.{IsSome}
+use Rattle.game_filter.specs.Renumbering.{renumbered}
 use Rattle.tree_rows.specs.declared.row.Row.{Row}
+use Rattle.tree_rows.specs.Rows.{rows_of}
+use Rattle.tree_live.specs.declared.entry.Entry.{Entry}
 use Rattle.tree_live.specs.declared.change.Change.{Change}
-use Rattle.tree_live.specs.Watching.{Watched}
-use Rattle.tree_live.specs.Slots.{AreBelow, in_slot, IsShown, IsTold, changed, most_told}
-use Rattle.tree_live.specs.Bringing.{ToldAt, DoneAt, ToldAll, Brought}
-
--- what was told to a slot of which the slot is the same
-told-from : {B : Type 0} (told : B → ℕ) (most : Option ℕ) (before again after : Option B) → again ≡ before → IsTold told most again after → IsTold told most before after
-told-from told most before again after same h = subst (λ (slot : Option _). IsTold told most slot after) same h
-
-told-to : {B : Type 0} (told : B → ℕ) (most : Option ℕ) (before after again : Option B) → again ≡ after → IsTold told most before after → IsTold told most before again
-told-to told most before after again same h = subst (λ (slot : Option _). IsTold told most before slot) (sym same) h
+use Rattle.tree_live.specs.declared.change.Change.TheVariants.{Filter, Game, Numbers}
+use Rattle.tree_live.specs.RowChanges.{rows_changed}
+use Rattle.tree_live.specs.Watching.{Watched, hits_in, under, with_game}
+use Rattle.tree_live.specs.Slots.{AreBelow, AreShown, AreTold, EachWatch, Fits, IsShown, IsShownIf, IsTold, IsToldRows, Slotted, changed, in_slot, most_told, rows_in}
+use Rattle.tree_live.specs.Following.{Followed}
+use Rattle.tree_live.specs.Showing.{ShownBelow, ToldEach}
+use Rattle.tree_live.proofs.ChangeLaws.{few-under, few-with, few-renumbered}
 
 -- a slot to which nothing was brought
 told-nothing : {B : Type 0} (rows : B → List Row) (told : B → ℕ) (few : Watched → ℕ) (watch : Option Watched) (slot : Option B) → IsShown rows watch slot
@@ -22,90 +23,128 @@ told-nothing rows told few None slot h = refl
 told-nothing rows told few (Some watch) None h = absurd h
 told-nothing rows told few (Some watch) (Some view) h = omega arith
 
-pub brought-none : {B : Type 0} (rows : B → List Row) (told : B → ℕ) (change : Change) (first : ℕ) (watches : List (Option Watched)) (views : List (Option B))
-    → ((k : ℕ) → IsShown rows (in_slot watches k) (in_slot views (first + k))) → Brought rows told change first 0 watches watches views views
-brought-none rows told change first watches views shown = record {
-  all = record {
-    slots = λ j. told-nothing rows told (most_told change j) (in_slot watches j) (in_slot views (first + j)) (shown j);
-    others = λ i below. refl;
-    number = refl;
-  };
-  watch = λ j below. absurd (omega (arith, below));
-  shown = λ j below. absurd (omega (arith, below));
-  left = λ j past. refl;
-  left_views = λ j past. refl;
+pub untold : {B : Type 0} (rows : B → List Row) (told : B → ℕ) (change : Change) (slots : Slotted) (views : List (Option B)) → AreShown rows slots views
+    → AreTold told slots (most_told change) views views
+untold rows told change slots views shown = record {
+  views = λ k. told-nothing rows told (most_told change k) (in_slot slots.watches k) (in_slot views (slots.first + k)) (shown k);
+  others = λ i below. refl;
   number = refl;
 }
 
-pub told-more : {B : Type 0} (rows : B → List Row) (told : B → ℕ) (change : Change) (first k : ℕ) (w0 w w1 : List (Option Watched)) (v0 v v1 : List (Option B))
-    → Brought rows told change first k w0 w v0 v → ToldAt told change first k w w1 v v1 → ToldAll told change first w0 v0 v1
-told-more rows told change first k w0 w w1 v0 v v1 brought at = record {
-  slots = λ j. by j (j == k) refl;
-  others = λ i below. at.other_views i (λ e. omega (arith, below, e)) ∙ brought.all.others i below;
-  number = at.views_number ∙ brought.all.number;
-}
+few-told : (change : Change) (k : ℕ) (watch : Watched) → Fits change watch
+    → rows_changed (rows_of (hits_in watch.games)) (rows_in (changed change k watch)) ≤ most_told change k watch
+few-told (Filter filter) k watch fits = few-under filter.now watch.games (under filter.now watch.games) refl
+few-told (Game i hits is_in) k watch fits =
+    let game : Entry = record { hit = in_slot hits.now k; is_in = is_in } in
+    few-with i game watch.games (with_game i game watch.games) refl
+few-told (Numbers numbers) k watch fits = few-renumbered numbers.now.to watch.games (renumbered numbers.now.to watch.games) fits refl
+
+-- ---- the views behind the change
+
+all-followed : (change : Change) (k : ℕ) (watches after : List (Option Watched)) → length watches ≤ k → Followed change k watches after → (j : ℕ)
+    → in_slot after j ≡ option_map (changed change j) (in_slot watches j)
+all-followed change k watches after all followed j = by (nat_lt j k) refl
   where
-    by : (j : ℕ) (b : Bool) → (j == k) ≡ b → IsTold told (option_map (most_told change j) (in_slot w0 j)) (in_slot v0 (first + j)) (in_slot v1 (first + j))
-    by j true e =
-        let is : k ≡ j = sym (eqb-true j k e) in
-        subst (λ (n : ℕ). IsTold told (option_map (most_told change n) (in_slot w0 n)) (in_slot v0 (first + n)) (in_slot v1 (first + n))) is
-        (told-from told (option_map (most_told change k) (in_slot w0 k)) (in_slot v0 (first + k)) (in_slot v (first + k)) (in_slot v1 (first + k))
-        (brought.left_views k (omega arith))
-        (subst (λ (o : Option Watched). IsTold told (option_map (most_told change k) o) (in_slot v (first + k)) (in_slot v1 (first + k))) (brought.left k (omega arith)) at.own))
-    by j false e =
-        let other : first + j ≡ first + k → ⊥ = λ same. eqb-false j k e (omega (arith, same)) in
-        told-to told (option_map (most_told change j) (in_slot w0 j)) (in_slot v0 (first + j)) (in_slot v (first + j)) (in_slot v1 (first + j))
-        (at.other_views (first + j) other) (brought.all.slots j)
+    by : (b : Bool) → nat_lt j k ≡ b → in_slot after j ≡ option_map (changed change j) (in_slot watches j)
+    by true e = followed.watch j (ltb-true j k e)
+    by false e =
+        let none : in_slot watches j ≡ None = get_or_past watches j None (omega (arith, all, ltb-false j k e)) in
+        followed.left j (ltb-false j k e) ∙ none ∙ ap (option_map (changed change j)) (sym none)
 
-pub brought-more : {B : Type 0} (rows : B → List Row) (told : B → ℕ) (change : Change) (first k : ℕ) (w0 w w1 : List (Option Watched)) (v0 v v1 : List (Option B))
-    → Brought rows told change first k w0 w v0 v → ToldAt told change first k w w1 v v1 → DoneAt rows change first k w w1 v1
-    → Brought rows told change first (k + 1) w0 w1 v0 v1
-brought-more rows told change first k w0 w w1 v0 v v1 brought at done = record {
-  all = told-more rows told change first k w0 w w1 v0 v v1 brought at;
-  watch = λ j below. watch j below (j == k) refl;
-  shown = λ j below. shown j below (j == k) refl;
-  left = λ j past. at.other_watches j (λ e. omega (arith, past, e)) ∙ brought.left j (omega (arith, past));
-  left_views = λ j past. at.other_views (first + j) (λ e. omega (arith, past, e)) ∙ brought.left_views j (omega (arith, past));
-  number = at.number ∙ brought.number;
-}
+slot-told : {B : Type 0} (rows : B → List Row) (told : B → ℕ) (change : Change) (k : ℕ) (watch : Option Watched) (before after : Option B)
+    → IfSome watch (Fits change) → IsShown rows watch before → IsToldRows rows told (option_map rows_in (option_map (changed change k) watch)) before after
+    → IsTold told (option_map (most_told change k) watch) before after
+slot-told rows told change k None before after fits shown h = h
+slot-told rows told change k (Some watch) None after fits shown h = absurd shown
+slot-told rows told change k (Some watch) (Some old) None fits shown h = absurd h
+slot-told rows told change k (Some watch) (Some old) (Some new) fits shown h = omega (arith, h (hits_in watch.games) shown, few-told change k watch fits)
+
+pub brought-told : {B : Type 0} (rows : B → List Row) (told : B → ℕ) (change : Change) (inside slots : Slotted) (k first : ℕ) (after : List (Option Watched))
+    (views views_after : List (Option B)) → inside ≡ slots → EachWatch (Fits change) slots → AreShown rows slots views → length inside.watches ≤ k
+    → first ≡ inside.first → Followed change k inside.watches after → ToldEach rows told first after views views_after
+    → AreTold told slots (most_told change) views views_after
+brought-told {B} rows told change inside slots k first after views views_after same fits shown all is followed tells =
+    subst (λ (s : Slotted). AreTold told s (most_told change) views views_after) same (record {
+      views = λ j.
+          let watch = in_slot inside.watches j in
+          let own : IsToldRows rows told (option_map rows_in (in_slot after j)) (in_slot views (inside.first + j)) (in_slot views_after (inside.first + j))
+          = subst (λ (n : ℕ). IsToldRows rows told (option_map rows_in (in_slot after j)) (in_slot views (n + j)) (in_slot views_after (n + j))) is (tells.slots j) in
+          slot-told rows told change j watch (in_slot views (inside.first + j)) (in_slot views_after (inside.first + j))
+          (subst (λ (s : Slotted). EachWatch (Fits change) s) (sym same) fits j) (subst (λ (s : Slotted). AreShown rows s views) (sym same) shown j)
+          (subst (λ (w : Option Watched). IsToldRows rows told (option_map rows_in w) (in_slot views (inside.first + j)) (in_slot views_after (inside.first + j)))
+          (all-followed change k inside.watches after all followed j) own);
+      others = λ i below. tells.others i (omega (arith, is, below));
+      number = tells.number;
+    })
+
+slot-shown : {B : Type 0} (rows : B → List Row) (told : B → ℕ) (change : Change) (k : ℕ) (watch : Option Watched) (before after : Option B)
+    → IsShown rows watch before → IsToldRows rows told (option_map rows_in (option_map (changed change k) watch)) before after
+    → IsShownIf rows (option_map (changed change k) watch) after → IsShown rows (option_map (changed change k) watch) after
+slot-shown rows told change k None before after was tells shown = shown
+slot-shown rows told change k (Some watch) None after was tells shown = absurd was
+slot-shown rows told change k (Some watch) (Some old) None was tells shown = absurd tells
+slot-shown rows told change k (Some watch) (Some old) (Some new) was tells shown = shown
+
+pub brought-shown : {B : Type 0} (rows : B → List Row) (told : B → ℕ) (change : Change) (inside slots : Slotted) (k first : ℕ) (after : List (Option Watched))
+    (views views_after : List (Option B)) → inside ≡ slots → AreShown rows slots views → length inside.watches ≤ k → first ≡ inside.first
+    → Followed change k inside.watches after → ShownBelow rows told first (length after) after views views_after
+    → AreShown rows (record inside { watches = after }) views_after
+brought-shown {B} rows told change inside slots k first after views views_after same shown all is followed below j =
+    let watch = in_slot inside.watches j in
+    let old : IsShown rows watch (in_slot views (inside.first + j)) = subst (λ (s : Slotted). AreShown rows s views) (sym same) shown j in
+    let place : first + j ≡ inside.first + j = ap (λ (n : ℕ). n + j) is in
+    let there : in_slot after j ≡ option_map (changed change j) watch = all-followed change k inside.watches after all followed j in
+    let tells : IsToldRows rows told (option_map rows_in (option_map (changed change j) watch)) (in_slot views (inside.first + j)) (in_slot views_after (inside.first + j))
+    = subst (λ (n : ℕ). IsToldRows rows told (option_map rows_in (option_map (changed change j) watch)) (in_slot views n) (in_slot views_after n)) place
+    (subst (λ (w : Option Watched). IsToldRows rows told (option_map rows_in w) (in_slot views (first + j)) (in_slot views_after (first + j))) there (below.all.slots j)) in
+    let shows : IsShownIf rows (option_map (changed change j) watch) (in_slot views_after (inside.first + j))
+    = subst (λ (n : ℕ). IsShownIf rows (option_map (changed change j) watch) (in_slot views_after n)) place
+    (subst (λ (w : Option Watched). IsShownIf rows w (in_slot views_after (first + j))) there (by (nat_lt j (length after)) refl)) in
+    subst (λ (w : Option Watched). IsShown rows w (in_slot views_after (inside.first + j))) (sym there)
+    (slot-shown rows told change j watch (in_slot views (inside.first + j)) (in_slot views_after (inside.first + j)) old tells shows)
   where
-    below-k : (j : ℕ) → j < k + 1 → (j == k) ≡ false → j < k
-    below-k j below e = omega (arith, below, eqb-false j k e)
-
-    watch : (j : ℕ) → j < k + 1 → (b : Bool) → (j == k) ≡ b → in_slot w1 j ≡ option_map (changed change j) (in_slot w0 j)
-    watch j below true e =
-        subst (λ (n : ℕ). in_slot w1 n ≡ option_map (changed change n) (in_slot w0 n)) (sym (eqb-true j k e))
-        (done.watch ∙ ap (option_map (changed change k)) (brought.left k (omega arith)))
-    watch j below false e = at.other_watches j (eqb-false j k e) ∙ brought.watch j (below-k j below e)
-
-    shown : (j : ℕ) → j < k + 1 → (b : Bool) → (j == k) ≡ b → IsShown rows (in_slot w1 j) (in_slot v1 (first + j))
-    shown j below true e = subst (λ (n : ℕ). IsShown rows (in_slot w1 n) (in_slot v1 (first + n))) (sym (eqb-true j k e)) done.shown
-    shown j below false e =
-        let other : first + j ≡ first + k → ⊥ = λ same. eqb-false j k e (omega (arith, same)) in
-        subst (λ (o : Option Watched). IsShown rows o (in_slot v1 (first + j))) (sym (at.other_watches j (eqb-false j k e)))
-        (subst (λ (slot : Option _). IsShown rows (in_slot w j) slot) (sym (at.other_views (first + j) other)) (brought.shown j (below-k j below e)))
-
--- a slot that is not watched stays so, also where memory runs out
-pub still-none : {B : Type 0} (rows : B → List Row) (told : B → ℕ) (change : Change) (first k : ℕ) (w0 w w1 : List (Option Watched)) (v0 v v1 : List (Option B))
-    → Brought rows told change first k w0 w v0 v → ToldAt told change first k w w1 v v1 → (j : ℕ) → in_slot w0 j ≡ None → in_slot w1 j ≡ None
-still-none rows told change first k w0 w w1 v0 v v1 brought at j none = by (j == k) refl (nat_lt j k) refl
-  where
-    by : (same : Bool) → (j == k) ≡ same → (below : Bool) → nat_lt j k ≡ below → in_slot w1 j ≡ None
-    by true e below f =
-        subst (λ (n : ℕ). in_slot w1 n ≡ None) (sym (eqb-true j k e))
-        (at.none (brought.left k (omega arith) ∙ subst (λ (n : ℕ). in_slot w0 n ≡ None) (eqb-true j k e) none))
-    by false e true f = at.other_watches j (eqb-false j k e) ∙ brought.watch j (ltb-true j k f) ∙ ap (option_map (changed change j)) none
-    by false e false f = at.other_watches j (eqb-false j k e) ∙ brought.left j (ltb-false j k f) ∙ none
-
-pub all-none : {B : Type 0} (rows : B → List Row) (told : B → ℕ) (change : Change) (first k : ℕ) (w0 w : List (Option Watched)) (v0 v : List (Option B))
-    → Brought rows told change first k w0 w v0 v → length w0 ≤ k → (j : ℕ) → in_slot w0 j ≡ None → in_slot w j ≡ None
-all-none rows told change first k w0 w v0 v brought past j none = by (nat_lt j k) refl
-  where
-    by : (below : Bool) → nat_lt j k ≡ below → in_slot w j ≡ None
-    by true f = brought.watch j (ltb-true j k f) ∙ ap (option_map (changed change j)) none
-    by false f = brought.left j (ltb-false j k f) ∙ none
+    by : (b : Bool) → nat_lt j (length after) ≡ b → IsShownIf rows (in_slot after j) (in_slot views_after (first + j))
+    by true e = below.shown j (ltb-true j (length after) e)
+    by false e = subst (λ (w : Option Watched). IsShownIf rows w (in_slot views_after (first + j))) (sym (get_or_past after j None (ltb-false j (length after) e))) tt
 
 -- where a slot is watched, or is watched no more
+there-below : {B : Type 0} (views : List (Option B)) (place : ℕ) → IsSome (in_slot views place) → place < length views
+there-below {B} views place held = by (nat_lt place (length views)) refl
+  where
+    no-view : (view : Option B) → view ≡ None → IsSome view → ⊥
+    no-view None is held = absurd (cc)
+    no-view (Some view) is held = absurd (cc)
+
+    by : (b : Bool) → nat_lt place (length views) ≡ b → place < length views
+    by true e = ltb-true place (length views) e
+    by false e = absurd (no-view (in_slot views place) (get_or_past views place None (ltb-false place (length views) e)) held)
+
+pub watched-shown : {B : Type 0} (rows : B → List Row) (inside slots : Slotted) (k place : ℕ) (watch : Option Watched) (view : Option B) (views : List (Option B))
+    → inside ≡ slots → k < length inside.watches → IsSome (in_slot views (slots.first + k)) → place ≡ inside.first + k → IsShown rows watch view → AreShown rows slots views
+    → AreShown rows (record inside { watches = set inside.watches k watch }) (set views place view)
+watched-shown {B} rows inside slots k place watch view views same within held at own shown j = by (j == k) refl
+  where
+    below : place < length views
+    below =
+        let first : inside.first ≡ slots.first = ap (λ (s : Slotted). s.first) same in
+        there-below views place (subst (λ (n : ℕ). IsSome (in_slot views n)) (omega (arith, first, at)) held)
+
+    others : IsShown rows (in_slot inside.watches j) (in_slot views (inside.first + j))
+    others = subst (λ (s : Slotted). AreShown rows s views) (sym same) shown j
+
+    by : (b : Bool) → (j == k) ≡ b → IsShown rows (in_slot (set inside.watches k watch) j) (in_slot (set views place view) (inside.first + j))
+    by true e =
+        let is : k ≡ j = sym (eqb-true j k e) in
+        subst (λ (n : ℕ). IsShown rows (in_slot (set inside.watches k watch) n) (in_slot (set views place view) (inside.first + n))) is
+        (subst (λ (w : Option Watched). IsShown rows w (in_slot (set views place view) (inside.first + k))) (sym (get_or-set_same inside.watches k watch None within))
+        (subst (λ (v : Option B). IsShown rows watch v)
+        (sym (ap (λ (n : ℕ). in_slot (set views place view) n) (sym at) ∙ get_or-set_same views place view None below)) own))
+    by false e =
+        let apart = eqb-false j k e in
+        subst (λ (w : Option Watched). IsShown rows w (in_slot (set views place view) (inside.first + j))) (sym (get_or-set_other inside.watches k j watch None apart))
+        (subst (λ (v : Option B). IsShown rows (in_slot inside.watches j) v)
+        (sym (get_or-set_other views place (inside.first + j) view None (λ is. apart (omega (arith, is, at))))) others)
+
 pub below-set : (count k : ℕ) (watches : List (Option Watched)) (watch : Option Watched) → k < count → AreBelow count watches → AreBelow count (set watches k watch)
 below-set count k watches watch lt are j past = get_or-set_other watches k j watch None (λ e. omega (arith, lt, past, e)) ∙ are j past
 
@@ -126,53 +165,3 @@ below-none count k past = none-in 8 k
     none-in zero i = refl
     none-in (suc n) zero = refl
     none-in (suc n) (suc i) = none-in n i
-
--- a slot that is no place of the list of views
-pub past-done : {B : Type 0} (rows : B → List Row) (change : Change) (first k : ℕ) (watches : List (Option Watched)) (views : List (Option B))
-    → length views ≤ first + k → IsShown rows (in_slot watches k) (in_slot views (first + k)) → DoneAt rows change first k watches watches views
-past-done rows change first k watches views past shown = record {
-  watch = none ∙ ap (option_map (changed change k)) (sym none);
-  shown = shown;
-}
-  where
-    no-watch : (w : Option Watched) → IsShown rows w None → w ≡ None
-    no-watch None h = refl
-    no-watch (Some w) h = absurd h
-
-    none : in_slot watches k ≡ None
-    none = no-watch (in_slot watches k) (subst (λ (slot : Option _). IsShown rows (in_slot watches k) slot) (get_or_past views (first + k) None past) shown)
-
-pub past-told : {B : Type 0} (rows : B → List Row) (told : B → ℕ) (change : Change) (first k : ℕ) (watches : List (Option Watched)) (views : List (Option B))
-    → IsShown rows (in_slot watches k) (in_slot views (first + k)) → ToldAt told change first k watches watches views views
-past-told rows told change first k watches views shown = record {
-  own = told-nothing rows told (most_told change k) (in_slot watches k) (in_slot views (first + k)) shown;
-  none = λ is. is;
-  other_watches = λ j other. refl;
-  other_views = λ i other. refl;
-  number = refl;
-  views_number = refl;
-}
-
--- a slot that is written back
-pub set-told : {B : Type 0} (told : B → ℕ) (change : Change) (first k : ℕ) (watches : List (Option Watched)) (views : List (Option B))
-    (watch : Option Watched) (slot : Option B) → k < length watches → first + k < length views → (in_slot watches k ≡ None → watch ≡ None)
-    → IsTold told (option_map (most_told change k) (in_slot watches k)) (in_slot views (first + k)) slot
-    → ToldAt told change first k watches (set watches k watch) views (set views (first + k) slot)
-set-told told change first k watches views watch slot within below stays h = record {
-  own = told-to told (option_map (most_told change k) (in_slot watches k)) (in_slot views (first + k)) slot (in_slot (set views (first + k) slot) (first + k))
-      (get_or-set_same views (first + k) slot None below) h;
-  none = λ is. get_or-set_same watches k watch None within ∙ stays is;
-  other_watches = λ j other. get_or-set_other watches k j watch None other;
-  other_views = λ i other. get_or-set_other views (first + k) i slot None other;
-  number = length-set watches k watch;
-  views_number = length-set views (first + k) slot;
-}
-
-pub set-done : {B : Type 0} (rows : B → List Row) (change : Change) (first k : ℕ) (watches : List (Option Watched)) (views : List (Option B))
-    (watch : Option Watched) (slot : Option B) → k < length watches → first + k < length views → watch ≡ option_map (changed change k) (in_slot watches k)
-    → IsShown rows watch slot → DoneAt rows change first k watches (set watches k watch) (set views (first + k) slot)
-set-done rows change first k watches views watch slot below below_views is shown = record {
-  watch = get_or-set_same watches k watch None below ∙ is;
-  shown = subst (λ (w : Option Watched). IsShown rows w (in_slot (set views (first + k) slot) (first + k))) (sym (get_or-set_same watches k watch None below))
-      (subst (λ (s : Option _). IsShown rows watch s) (sym (get_or-set_same views (first + k) slot None below_views)) shown);
-}

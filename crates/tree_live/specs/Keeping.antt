@@ -13,23 +13,15 @@ abbrev pub place_of : Option Move → List Row → ℕ
 place_of key [] = 0
 place_of key (row ∷ rows) = if same_key row.key key then 0 else place_of key rows + 1
 
--- Whether a key is among these, and the keys with one more behind them, unless it is among them.
+-- Whether a key is among these.
 abbrev pub is_among : Option Move → List (Option Move) → Bool
 is_among key [] = false
 is_among key (other ∷ keys) = same_key other key || is_among key keys
-
-abbrev pub noted : Option Move → List (Option Move) → List (Option Move)
-noted key keys = if is_among key keys then keys else keys ++ key ∷ []
 
 -- The rows of these keys are those of the table, and all others are as before.
 pub record Tells (keys : List (Option Move)) (table before after : List Row) : Type 0 where
   pub own : (key : Option Move) → is_among key keys ≡ true → row_at key after ≡ row_at key table
   pub others : (key : Option Move) → is_among key keys ≡ false → row_at key after ≡ row_at key before
-
--- The rows of two states of the games differ at these keys alone.
-abbrev pub DifferAt : List (Option Move) → List Entry → List Entry → Type 0
-DifferAt keys before after =
-    (key : Option Move) → is_among key keys ≡ false → row_at key (rows_of (hits_in after)) ≡ row_at key (rows_of (hits_in before))
 
 -- A game that is out and has no hit.
 abbrev pub no_game : Entry

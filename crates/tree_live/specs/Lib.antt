@@ -2,6 +2,6 @@ pub mod Views
 pub mod RowChanges
 pub mod Watching
 pub mod Slots
-pub mod Bringing
+pub mod Following
 pub mod Keeping
 pub mod Showing

@@ -1,16 +1,15 @@
 //! Watches that follow the games while no view is told.
 ghost use Rattle.std.specs.Prelude.{◌≡◌, ℕ, ◌<◌, ◌≤◌, None, length, option_map, IfSome, OnOk};
 ghost use Rattle.tree_live.specs.Slots.{Fits, changed, in_slot};
-ghost use Rattle.tree_live.specs.Bringing.{Followed};
+ghost use Rattle.tree_live.specs.Following.{Followed};
 
 use crate::change::{Change, hit_in};
 use crate::entry::Entry;
 use crate::watch::Watch;
-use std::alloc::{AllocError, Global};
+use std::alloc::AllocError;
 
 /// Brings a change to each watch.
 pub(crate) fn follow_all(
-    alloc: Global,
     watches: &mut [Option<Watch>],
     change: &Change<'_>,
 ) -> Result<(), AllocError>
@@ -20,47 +19,37 @@ pub(crate) fn follow_all(
     ensures number { length watches.new ≡ length watches.old }
 {
     for k in 0..watches.len() {
-        follow(alloc, k, &mut watches[k], change)?;
+        follow(k, &mut watches[k], change)?;
     }
     Ok(())
 }
 
 // Brings a change to the watch of slot `k`, if there is one.
-fn follow(
-    alloc: Global,
-    k: usize,
-    watch: &mut Option<Watch>,
-    change: &Change<'_>,
-) -> Result<(), AllocError>
+fn follow(k: usize, watch: &mut Option<Watch>, change: &Change<'_>) -> Result<(), AllocError>
     requires fits { IfSome watch.old (Fits change.now) }
     ensures watched { OnOk result (watch.new ≡ option_map (changed change.now k) watch.old) }
     ensures none { watch.old ≡ None → watch.new ≡ None }
 {
     match watch {
         None => Ok(()),
-        Some(watch) => follow_with(alloc, k, watch, change),
+        Some(watch) => follow_with(k, watch, change),
     }
 }
 
 // Brings a change to a watch.
-fn follow_with(
-    alloc: Global,
-    k: usize,
-    watch: &mut Watch,
-    change: &Change<'_>,
-) -> Result<(), AllocError>
+fn follow_with(k: usize, watch: &mut Watch, change: &Change<'_>) -> Result<(), AllocError>
     requires fits { Fits change.now watch.old }
     ensures watched { OnOk result (watch.new ≡ changed change.now k watch.old) }
 {
     match change {
-        Change::Filter(filter) => watch.set_filter(alloc, filter),
+        Change::Filter(filter) => watch.set_filter(filter),
         Change::Game { i, hits, is_in } => {
             let game = Entry {
                 hit: hit_in(hits, k),
                 is_in: *is_in,
             };
-            watch.set_game(alloc, *i, game)
+            watch.set_game(*i, game)
         }
-        Change::Numbers(numbers) => watch.renumber(alloc, numbers),
+        Change::Numbers(numbers) => watch.renumber(numbers),
     }
 }

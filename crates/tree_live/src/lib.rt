@@ -2,11 +2,9 @@
 //! view is told row by row, with each change or later by one call.
 #![tactic(auto)]
 
-mod bringing;
 mod change;
 mod entry;
 mod following;
-mod keys;
 mod laws;
 mod marks;
 mod place;

@@ -1,5 +1,4 @@
 //! The slots of a list of views.
-use crate::bringing::bring_all;
 use crate::change::Change;
 use crate::following::follow_all;
 use crate::showing::show_all;
@@ -38,7 +37,7 @@ impl Model for Slots {
 }
 
 impl Slots {
-    ghost use Rattle.std.specs.Prelude.{◌≡◌, ◌+◌, ◌<◌, ◌≤◌, ◌&&◌, ℕ, Some, None, nat_lt, if◌then◌else◌, is_some, length, option_copied, option_map, replicate, slice_set, IfSome, IsSome, OnOk, OnErr, MatchResult};
+    ghost use Rattle.std.specs.Prelude.{◌≡◌, ◌+◌, ◌<◌, ◌≤◌, ◌&&◌, ℕ, false, Some, None, nat_lt, if◌then◌else◌, is_some, length, option_copied, option_map, replicate, slice_set, IfSome, IsSome, OnOk, OnErr, MatchResult};
     ghost use Rattle.game_filter.specs.Renumbering.{renumbered};
     ghost use Rattle.tree_live.specs.Watching.{all_changes, all_out, hits_in, staying, under, with_game};
     ghost use Rattle.tree_live.specs.Slots.{AreBelow, AreChanged, AreShown, AreShownIf, AreTold, AreToldRows, EachWatch, Fits, IsShown, IsTold, changed, in_slot, is_within, kept_hit, most_told};
@@ -88,18 +87,18 @@ impl Slots {
         views: &mut [Option<Box<dyn TreeView>>],
         k: u8,
         board: PackedBoard,
-        hits: Vec<Option<GameHit>>,
+        hits: &[Option<GameHit>],
         filter: &Filter,
     ) -> Result<(), AllocError>
         requires slot { k < self.old.count }
         requires holds { IsSome (in_slot views.old (self.old.first + k)) }
-        requires same_games { length hits.items ≡ length filter.now }
-        requires few { length hits.items ≤ 16777214 }
-        ensures watched { OnOk result (self.new ≡ record self.old { watches = slice_set self.old.watches k (Some (record { board = board; games = under filter.now (all_out hits.items) })) }) }
+        requires same_games { length hits.now ≡ length filter.now }
+        requires few { length hits.now ≤ 16777214 }
+        ensures watched { OnOk result (self.new ≡ record self.old { watches = slice_set self.old.watches k (Some (record { board = board; games = under filter.now (all_out hits.now) })) }) }
         ensures unchanged { OnErr result (self.new ≡ self.old) }
         ensures here { OnOk result (IsShown (λ b. rows b) (in_slot self.new.watches k) (in_slot views.new (self.old.first + k))) }
         ensures shown { AreShown (λ b. rows b) self.old views.old → OnOk result (AreShown (λ b. rows b) self.new views.new) }
-        ensures told { IsTold (λ b. told b) (Some (1 + length (hits_in (under filter.now (all_out hits.items))))) (in_slot views.old (self.old.first + k)) (in_slot views.new (self.old.first + k)) }
+        ensures told { IsTold (λ b. told b) (Some (1 + length (hits_in (under filter.now (all_out hits.now))))) (in_slot views.old (self.old.first + k)) (in_slot views.new (self.old.first + k)) }
         ensures others { (i : ℕ) → (i ≡ self.old.first + k → ⊥) → in_slot views.new i ≡ in_slot views.old i }
         ensures number { length views.new ≡ length views.old }
     {
@@ -194,37 +193,28 @@ impl Slots {
         self.bring(alloc, views, &Change::Numbers(renumbering))
     }
 
-    /// Game `i` has become another, or is added: its hit in each slot, and whether it is in. No view is told yet.
-    pub fn set_game(
-        &mut self,
-        alloc: Global,
-        i: u32,
-        hits: &[Option<GameHit>; 8],
-        is_in: bool,
-    ) -> Result<(), AllocError>
+    /// Game `i` has become another, or is added: its hit in each slot. The game is out until `show` takes it in, and no view is told yet.
+    pub fn set_game(&mut self, i: u32, hits: &[Option<GameHit>; 8]) -> Result<(), AllocError>
         requires game { EachWatch (λ watch. (i ≤ length watch.games) × (i < 16777214)) self.old }
-        ensures watched { OnOk result (AreChanged (λ k watch. record watch { games = with_game i (record { hit = in_slot hits.now k; is_in = is_in }) watch.games }) self.old self.new) }
+        ensures watched { OnOk result (AreChanged (λ k watch. record watch { games = with_game i (record { hit = in_slot hits.now k; is_in = false }) watch.games }) self.old self.new) }
         ensures slots { (self.new.first ≡ self.old.first) × (self.new.count ≡ self.old.count) }
         ensures number { length self.new.watches ≡ length self.old.watches }
     {
-        self.follow(
-            alloc,
-            &Change::Game {
-                i,
-                hits: hits.as_slice(),
-                is_in,
-            },
-        )
+        self.follow(&Change::Game {
+            i,
+            hits: hits.as_slice(),
+            is_in: false,
+        })
     }
 
     /// The games have become those that stay, with their new numbers. No view is told yet.
-    pub fn renumber(&mut self, alloc: Global, renumbering: &Renumbering) -> Result<(), AllocError>
+    pub fn renumber(&mut self, renumbering: &Renumbering) -> Result<(), AllocError>
         requires same_games { EachWatch (λ watch. length renumbering.now.to ≡ length watch.games) self.old }
         ensures watched { OnOk result (AreChanged (λ k watch. record watch { games = renumbered renumbering.now.to watch.games }) self.old self.new) }
         ensures slots { (self.new.first ≡ self.old.first) × (self.new.count ≡ self.old.count) }
         ensures number { length self.new.watches ≡ length self.old.watches }
     {
-        self.follow(alloc, &Change::Numbers(renumbering))
+        self.follow(&Change::Numbers(renumbering))
     }
 
     /// The hit that slot `k` keeps of game `i`, or none if the slot is not watched or has no such game.
@@ -264,21 +254,21 @@ impl Slots {
         let end = usize::from(start) + usize::from(count);
         let all = self.watches.as_mut_slice();
         let watches = &mut all[usize::from(start)..end];
-        follow_all(alloc, watches, &Change::Filter(filter))?;
+        follow_all(watches, &Change::Filter(filter))?;
         show_all(alloc, first, watches, views)
     }
 
     // Brings a change to each watch, and to no view.
-    fn follow(&mut self, alloc: Global, change: &Change<'_>) -> Result<(), AllocError>
+    fn follow(&mut self, change: &Change<'_>) -> Result<(), AllocError>
         requires fits { EachWatch (Fits change.now) self.old }
         ensures watched { OnOk result (AreChanged (changed change.now) self.old self.new) }
         ensures slots { (self.new.first ≡ self.old.first) × (self.new.count ≡ self.old.count) }
         ensures number { length self.new.watches ≡ length self.old.watches }
     {
-        follow_all(alloc, &mut self.watches, change)
+        follow_all(&mut self.watches, change)
     }
 
-    // Brings a change to each slot that is watched.
+    // Brings a change to each watch, and tells its view the rows that differ.
     fn bring(
         &mut self,
         alloc: Global,
@@ -292,7 +282,7 @@ impl Slots {
         ensures told { AreTold (λ b. told b) self.old (most_told change.now) views.old views.new }
         ensures slots { (self.new.first ≡ self.old.first) × (self.new.count ≡ self.old.count) }
     {
-        let first = usize::from(self.first);
-        bring_all(alloc, first, &mut self.watches, views, change)
+        follow_all(&mut self.watches, change)?;
+        show_all(alloc, usize::from(self.first), &self.watches, views)
     }
 }

@@ -2,12 +2,11 @@
 ghost use Rattle.std.specs.Prelude.{◌≡◌, length};
 
 use crate::entry::{Entry, same_counted};
-use crate::keys::note;
 use crate::marks::Marks;
 use crate::row_changes::keys_changed;
 use crate::telling::tell;
 use crate::view::TreeView;
-use cell_core::{Move, PackedBoard};
+use cell_core::PackedBoard;
 use game_filter::{Filter, Renumbering};
 use std::alloc::{AllocError, Global};
 use std::marker::Model;
@@ -37,17 +36,14 @@ impl Model for Watch {
 }
 
 impl Watch {
-    ghost use Rattle.std.specs.Prelude.{◌≡◌, ◌+◌, ◌<◌, ◌≤◌, [], ◌∷◌, ◌++◌, List, Option, Some, None, length, option_to_list, slice_index_or, slice_set, IfOk, OnOk, OnErr, false};
-    ghost use Rattle.cell_core.specs.declared.step.Move.{Move as MoveValue};
+    ghost use Rattle.std.specs.Prelude.{◌≡◌, ◌+◌, ◌<◌, ◌≤◌, [], ◌∷◌, ◌++◌, List, Some, None, length, slice_set, IfOk, OnOk, OnErr};
     ghost use Rattle.game_filter.specs.Renumbering.{renumbered};
     ghost use Rattle.tree_rows.specs.declared.hit.GameHit.{GameHit as HitValue};
-    ghost use Rattle.tree_rows.specs.Keys.{same_key};
-    ghost use Rattle.tree_rows.specs.Rows.{row_at, rows_of};
-    ghost use Rattle.tree_live.specs.declared.entry.Entry.{Entry as EntryValue};
+    ghost use Rattle.tree_rows.specs.Rows.{rows_of};
     ghost use Rattle.tree_live.specs.Views.{Shows};
     ghost use Rattle.tree_live.specs.RowChanges.{rows_changed};
-    ghost use Rattle.tree_live.specs.Watching.{all_changes, all_out, changes, counted, hits_in, staying, under, with_game};
-    ghost use Rattle.tree_live.specs.Keeping.{DifferAt, entry_at, marked, no_game, reaching};
+    ghost use Rattle.tree_live.specs.Watching.{all_changes, all_out, counted, hits_in, staying, under, with_game};
+    ghost use Rattle.tree_live.specs.Keeping.{entry_at, marked, no_game, reaching};
 
     /// Watches a board and side, of which these are the hits of the games, one optional hit each: the view is cleared and shows the
     /// rows of those that are in.
@@ -55,18 +51,19 @@ impl Watch {
         alloc: Global,
         view: &mut dyn TreeView,
         board: PackedBoard,
-        hits: Vec<Option<GameHit>>,
+        hits: &[Option<GameHit>],
         filter: &Filter,
     ) -> Result<Watch, AllocError>
-        requires same_games { length hits.items ≡ length filter.now }
-        requires few { length hits.items ≤ 16777214 }
-        ensures watched { IfOk result (λ watch. watch ≡ record { board = board; games = under filter.now (all_out hits.items) }) }
+        requires same_games { length hits.now ≡ length filter.now }
+        requires few { length hits.now ≤ 16777214 }
+        ensures watched { IfOk result (λ watch. watch ≡ record { board = board; games = under filter.now (all_out hits.now) }) }
         ensures shown { IfOk result (λ watch. Shows (hits_in watch.games) (rows view.new)) }
-        ensures told { told view.new ≤ told view.old + 1 + length (hits_in (under filter.now (all_out hits.items))) }
+        ensures told { told view.new ≤ told view.old + 1 + length (hits_in (under filter.now (all_out hits.now))) }
     {
         view.clear();
-        let mut watch = Watch::all_out(alloc, board, hits.as_slice())?;
-        watch.follow_filter(alloc, view, filter)?;
+        let mut watch = Watch::all_out(alloc, board, hits)?;
+        watch.set_filter(filter)?;
+        watch.show(alloc, view)?;
         Ok(watch)
     }
 
@@ -90,7 +87,8 @@ impl Watch {
         ensures shown { OnOk result (Shows (hits_in self.new.games) (rows view.new)) }
         ensures told { told view.new ≤ told view.old + all_changes self.old.games (under filter.now self.old.games) }
     {
-        self.follow_filter(alloc, view, filter)
+        self.set_filter(filter)?;
+        self.show(alloc, view)
     }
 
     /// Game `i` has become another, or is added: its hit, if it has one, and whether it is in.
@@ -108,11 +106,8 @@ impl Watch {
         ensures shown { OnOk result (Shows (hits_in self.new.games) (rows view.new)) }
         ensures told { told view.new ≤ told view.old + all_changes self.old.games (with_game i game self.old.games) }
     {
-        let place = i as usize;
-        self.reach(place)?;
-        let mut keys = Vec::new(alloc);
-        self.change(place, game, &mut keys)?;
-        tell(&self.table, view, keys.as_slice())
+        self.set_game(i, game)?;
+        self.show(alloc, view)
     }
 
     /// The games have become those that stay, with their new numbers.
@@ -128,9 +123,8 @@ impl Watch {
         ensures shown { OnOk result (Shows (hits_in self.new.games) (rows view.new)) }
         ensures told { told view.new ≤ told view.old + all_changes self.old.games (staying renumbering.now.to self.old.games) }
     {
-        self.follow_numbers(alloc, view, renumbering.to())?;
-        self.move_games(renumbering);
-        Ok(())
+        self.renumber(renumbering)?;
+        self.show(alloc, view)
     }
 
     /// The hit that is kept of game `i`, if there is one.
@@ -145,39 +139,35 @@ impl Watch {
     }
 
     /// Game `i` has become another, or is added. No view is told.
-    pub(crate) fn set_game(&mut self, alloc: Global, i: u32, game: Entry) -> Result<(), AllocError>
+    pub(crate) fn set_game(&mut self, i: u32, game: Entry) -> Result<(), AllocError>
         requires game { i ≤ length self.old.games }
         requires room { i < 16777214 }
         ensures watched { OnOk result (self.new ≡ record self.old { games = with_game i game self.old.games }) }
     {
         let place = i as usize;
         self.reach(place)?;
-        let mut keys = Vec::new(alloc);
-        self.change(place, game, &mut keys)
+        self.change(place, game)
     }
 
     /// The games have become those that stay, with their new numbers. No view is told.
-    pub(crate) fn renumber(
-        &mut self,
-        alloc: Global,
-        renumbering: &Renumbering,
-    ) -> Result<(), AllocError>
+    pub(crate) fn renumber(&mut self, renumbering: &Renumbering) -> Result<(), AllocError>
         requires same_games { length renumbering.now.to ≡ length self.old.games }
         ensures watched { OnOk result (self.new ≡ record self.old { games = renumbered renumbering.now.to self.old.games }) }
     {
-        let mut keys = Vec::new(alloc);
-        self.take_numbers(renumbering.to(), &mut keys)?;
+        self.take_numbers(renumbering.to())?;
         self.move_games(renumbering);
         Ok(())
     }
 
     /// The filter has become this one, of the same games. No view is told.
-    pub(crate) fn set_filter(&mut self, alloc: Global, filter: &Filter) -> Result<(), AllocError>
+    pub(crate) fn set_filter(&mut self, filter: &Filter) -> Result<(), AllocError>
         requires same_games { length filter.now ≡ length self.old.games }
         ensures watched { OnOk result (self.new ≡ record self.old { games = under filter.now self.old.games }) }
     {
-        let mut keys = Vec::new(alloc);
-        self.take_filter(filter, &mut keys)
+        for i in 0..filter.len() {
+            self.mark(i as usize, Marks::Plies, filter.get(i))?;
+        }
+        Ok(())
     }
 
     /// Tells a view the rows that differ from those that it shows.
@@ -219,157 +209,67 @@ impl Watch {
         })
     }
 
-    // Puts games in and out by a filter, and tells the view each row that differs, once.
-    fn follow_filter(
-        &mut self,
-        alloc: Global,
-        view: &mut dyn TreeView,
-        filter: &Filter,
-    ) -> Result<(), AllocError>
-        requires same_games { length filter.now ≡ length self.old.games }
-        requires shown { Shows (hits_in self.old.games) (rows view.old) }
-        ensures watched { OnOk result (self.new ≡ record self.old { games = under filter.now self.old.games }) }
-        ensures shown { OnOk result (Shows (hits_in self.new.games) (rows view.new)) }
-        ensures told { told view.new ≤ told view.old + all_changes self.old.games (under filter.now self.old.games) }
-    {
-        let mut keys = Vec::new(alloc);
-        self.take_filter(filter, &mut keys)?;
-        tell(&self.table, view, keys.as_slice())
-    }
-
-    // Puts the games out that get no new number, and tells the view each row that differs, once.
-    fn follow_numbers(
-        &mut self,
-        alloc: Global,
-        view: &mut dyn TreeView,
-        to: &[Option<u32>],
-    ) -> Result<(), AllocError>
+    // Puts the games out that get no new number.
+    fn take_numbers(&mut self, to: &[Option<u32>]) -> Result<(), AllocError>
         requires same_games { length to.now ≡ length self.old.games }
-        requires shown { Shows (hits_in self.old.games) (rows view.old) }
         ensures watched { OnOk result (self.new ≡ record self.old { games = staying to.now self.old.games }) }
-        ensures shown { OnOk result (Shows (hits_in self.new.games) (rows view.new)) }
-        ensures told { told view.new ≤ told view.old + all_changes self.old.games (staying to.now self.old.games) }
-    {
-        let mut keys = Vec::new(alloc);
-        self.take_numbers(to, &mut keys)?;
-        tell(&self.table, view, keys.as_slice())
-    }
-
-    // Puts games in and out by a filter, and notes the keys of the rows that change.
-    fn take_filter(
-        &mut self,
-        filter: &Filter,
-        keys: &mut Vec<Option<Move>>,
-    ) -> Result<(), AllocError>
-        requires same_games { length filter.now ≡ length self.old.games }
-        requires no_keys { keys.old.items ≡ [] }
-        ensures watched { OnOk result (self.new ≡ record self.old { games = under filter.now self.old.games }) }
-        ensures differ { OnOk result (DifferAt keys.new.items self.old.games self.new.games) }
-        ensures few { OnOk result (length keys.new.items ≤ all_changes self.old.games (under filter.now self.old.games)) }
-    {
-        for i in 0..filter.len() {
-            self.mark(i as usize, Marks::Plies, filter.get(i), keys)?;
-        }
-        Ok(())
-    }
-
-    // Puts the games out that get no new number, and notes the keys of the rows that change.
-    fn take_numbers(
-        &mut self,
-        to: &[Option<u32>],
-        keys: &mut Vec<Option<Move>>,
-    ) -> Result<(), AllocError>
-        requires same_games { length to.now ≡ length self.old.games }
-        requires no_keys { keys.old.items ≡ [] }
-        ensures watched { OnOk result (self.new ≡ record self.old { games = staying to.now self.old.games }) }
-        ensures differ { OnOk result (DifferAt keys.new.items self.old.games self.new.games) }
-        ensures few { OnOk result (length keys.new.items ≤ all_changes self.old.games (staying to.now self.old.games)) }
     {
         for i in 0..to.len() {
-            self.mark(i, Marks::Numbers, to[i], keys)?;
+            self.mark(i, Marks::Numbers, to[i])?;
         }
         Ok(())
     }
 
     // Puts a game in or out by its mark.
-    fn mark(
-        &mut self,
-        i: usize,
-        marks: Marks,
-        mark: Option<u32>,
-        keys: &mut Vec<Option<Move>>,
-    ) -> Result<(), AllocError>
+    fn mark(&mut self, i: usize, marks: Marks, mark: Option<u32>) -> Result<(), AllocError>
         requires game { i < length self.old.games }
         ensures watched { OnOk result (self.new ≡ record self.old { games = slice_set self.old.games i (marked marks (entry_at self.old.games i) mark) }) }
-        ensures differ { OnOk result ((base : List EntryValue) → DifferAt keys.old.items base self.old.games → DifferAt keys.new.items base self.new.games) }
-        ensures few { OnOk result (length keys.new.items ≤ length keys.old.items + changes (counted (entry_at self.old.games i)) (counted (marked marks (entry_at self.old.games i) mark))) }
     {
         let game = self.games[i];
         let is_in = marks.wanted(game.is_in, mark);
         if is_in == game.is_in {
             return Ok(());
         }
-        self.change(i, Entry { is_in, ..game }, keys)
+        self.change(i, Entry { is_in, ..game })
     }
 
-    // A game becomes another; notes the keys of the rows that change.
-    fn change(
-        &mut self,
-        i: usize,
-        game: Entry,
-        keys: &mut Vec<Option<Move>>,
-    ) -> Result<(), AllocError>
+    // A game becomes another.
+    fn change(&mut self, i: usize, game: Entry) -> Result<(), AllocError>
         requires game { i < length self.old.games }
         ensures watched { OnOk result (self.new ≡ record self.old { games = slice_set self.old.games i game }) }
-        ensures differ { OnOk result ((base : List EntryValue) → DifferAt keys.old.items base self.old.games → DifferAt keys.new.items base self.new.games) }
-        ensures few { OnOk result (length keys.new.items ≤ length keys.old.items + changes (counted (entry_at self.old.games i)) (counted game)) }
     {
         if same_counted(&self.games[i].counted(), &game.counted()) {
             self.put(i, game);
             return Ok(());
         }
-        self.take_out(i, keys)?;
-        self.put_in(i, game, keys)
+        self.take_out(i);
+        self.put_in(i, game)
     }
 
     // A game becomes one of which nothing is counted.
-    fn take_out(&mut self, i: usize, keys: &mut Vec<Option<Move>>) -> Result<(), AllocError>
+    fn take_out(&mut self, i: usize)
         requires game { i < length self.old.games }
-        ensures watched { OnOk result (self.new ≡ record self.old { games = slice_set self.old.games i no_game }) }
-        ensures differ { OnOk result ((base : List EntryValue) → DifferAt keys.old.items base self.old.games → DifferAt keys.new.items base self.new.games) }
-        ensures few { OnOk result (length keys.new.items ≤ length keys.old.items + length (option_to_list (counted (entry_at self.old.games i)))) }
+        ensures watched { self.new ≡ record self.old { games = slice_set self.old.games i no_game } }
     {
         match self.games[i].counted() {
-            Some(hit) => {
-                note(keys, &hit.next)?;
-                self.leave(i, &hit);
-            }
+            Some(hit) => self.leave(i, &hit),
             None => self.put(i, NO_GAME),
         }
-        Ok(())
     }
 
     // A game of which nothing is counted becomes another.
-    fn put_in(
-        &mut self,
-        i: usize,
-        game: Entry,
-        keys: &mut Vec<Option<Move>>,
-    ) -> Result<(), AllocError>
+    fn put_in(&mut self, i: usize, game: Entry) -> Result<(), AllocError>
         requires game { i < length self.old.games }
         requires out { entry_at self.old.games i ≡ no_game }
         ensures watched { OnOk result (self.new ≡ record self.old { games = slice_set self.old.games i game }) }
-        ensures differ { OnOk result ((base : List EntryValue) → DifferAt keys.old.items base self.old.games → DifferAt keys.new.items base self.new.games) }
-        ensures few { OnOk result (length keys.new.items ≤ length keys.old.items + length (option_to_list (counted game))) }
     {
         match game.counted() {
-            Some(hit) => {
-                note(keys, &hit.next)?;
-                self.enter(i, game, &hit)?;
+            Some(hit) => self.enter(i, game, &hit),
+            None => {
+                self.put(i, game);
+                Ok(())
             }
-            None => self.put(i, game),
         }
-        Ok(())
     }
 
     // A game becomes another of which the same is counted.
@@ -377,7 +277,6 @@ impl Watch {
         requires game { i < length self.old.games }
         requires same { counted game ≡ counted (entry_at self.old.games i) }
         ensures watched { self.new ≡ record self.old { games = slice_set self.old.games i game } }
-        ensures same { hits_in self.new.games ≡ hits_in self.old.games }
     {
         self.games[i] = game;
     }
@@ -387,7 +286,6 @@ impl Watch {
         requires game { i < length self.old.games }
         requires counted { counted (entry_at self.old.games i) ≡ Some hit.now }
         ensures watched { self.new ≡ record self.old { games = slice_set self.old.games i no_game } }
-        ensures others { (key : Option MoveValue) → same_key hit.now.next key ≡ false → row_at key (rows_of (hits_in self.new.games)) ≡ row_at key (rows_of (hits_in self.old.games)) }
     {
         self.table.drop_hit(hit);
         self.games[i] = NO_GAME;
@@ -399,7 +297,6 @@ impl Watch {
         requires out { entry_at self.old.games i ≡ no_game }
         requires counted { counted game ≡ Some hit.now }
         ensures watched { OnOk result (self.new ≡ record self.old { games = slice_set self.old.games i game }) }
-        ensures others { OnOk result ((key : Option MoveValue) → same_key hit.now.next key ≡ false → row_at key (rows_of (hits_in self.new.games)) ≡ row_at key (rows_of (hits_in self.old.games))) }
     {
         self.table.add_hit(hit)?;
         self.games[i] = game;

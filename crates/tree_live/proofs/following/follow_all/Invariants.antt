@@ -1,4 +1,4 @@
-use Rattle.tree_live.specs.Bringing.{Followed}
+use Rattle.tree_live.specs.Following.{Followed}
 use Rattle.tree_live.proofs.following.follow_all.Given as goal
 
 -- The change was brought to the watches so far.

@@ -14,13 +14,10 @@ put-requires-clause-same c =
     sym c.counted-2.ensures.counted ∙ sym (one-counted c.counted.result c.counted-2.result (sym c.if-same_counted.ensures.same))
     ∙ c.counted.ensures.counted ∙ ap counted at
 
-pub returns-clause-watched : goal.returns-clause-watched
-returns-clause-watched c =
-    on-ok c.put_in.result
-    (λ put. put ∙ ap (λ (w : Watched). record w { games = set w.games c.args.i c.args.game }) c.in_ok-take_out.ensures.watched
-    ∙ ap (λ (games : List Entry). record c.args.self.now { games = games }) (set-set c.args.self.now.games c.args.i no_game c.args.game))
-    c.put_in.ensures.watched
-
-pub returns-clause-differ : goal.returns-clause-differ
-returns-clause-differ c =
-    on-ok c.put_in.result (λ later base differ. later base (c.in_ok-take_out.ensures.differ base differ)) c.put_in.ensures.differ
+pub returns : goal.returns
+returns c = record {
+  watched = on-ok c.put_in.result
+      (λ put. put ∙ ap (λ (w : Watched). record w { games = set w.games c.args.i c.args.game }) c.take_out.ensures.watched
+      ∙ ap (λ (games : List Entry). record c.args.self.now { games = games }) (set-set c.args.self.now.games c.args.i no_game c.args.game))
+      c.put_in.ensures.watched;
+}

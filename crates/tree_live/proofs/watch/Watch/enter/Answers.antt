@@ -1,9 +1,8 @@
 use Rattle.std.proofs.Common.{◌<◌, ◌∙◌, List, length, sym, ap, subst, arith}
-use Rattle.tree_rows.specs.Rows.{row_at, rows_of}
 use Rattle.tree_live.specs.declared.entry.Entry.{Entry}
-use Rattle.tree_live.specs.Watching.{Watched, hits_in}
+use Rattle.tree_live.specs.Watching.{Watched}
 use Rattle.tree_live.specs.Keeping.{entry_at}
-use Rattle.tree_live.proofs.HitLaws.{enters-room, enters-sums, enters-others}
+use Rattle.tree_live.proofs.HitLaws.{enters-room, enters-sums}
 use Rattle.tree_live.proofs.watch.Watch.enter.Goals as goal
 
 pub add_hit-requires : goal.add_hit-requires
@@ -25,11 +24,3 @@ invariant_of-self-2 c =
           (ap (λ (games : List Entry). entry_at games c.args.i) is ∙ c.requires.out) c.requires.counted c.self.invariant.1
           c.in_ok-add_hit.ensures.hit c.in_ok-add_hit.ensures.among,
     )
-
-pub returns-clause-others : goal.returns-clause-others
-returns-clause-others c key not =
-    let is = ap (λ (w : Watched). w.games) c.self.view_is in
-    enters-others c.self.inside.games.items c.args.i c.args.game c.args.hit.now key
-    (subst (λ (games : List Entry). c.args.i < length games) (sym is) c.requires.game)
-    (ap (λ (games : List Entry). entry_at games c.args.i) is ∙ c.requires.out) c.requires.counted not
-    ∙ ap (λ (games : List Entry). row_at key (rows_of (hits_in games))) is

@@ -1,9 +1,8 @@
 use Rattle.std.proofs.Common.{◌<◌, ◌∙◌, List, length, sym, ap, subst}
-use Rattle.tree_rows.specs.Rows.{row_at, rows_of}
 use Rattle.tree_live.specs.declared.entry.Entry.{Entry}
-use Rattle.tree_live.specs.Watching.{Watched, counted, hits_in}
+use Rattle.tree_live.specs.Watching.{Watched, counted}
 use Rattle.tree_live.specs.Keeping.{entry_at}
-use Rattle.tree_live.proofs.HitLaws.{leaves-hit, leaves-sums, leaves-others}
+use Rattle.tree_live.proofs.HitLaws.{leaves-hit, leaves-sums}
 use Rattle.tree_live.proofs.watch.Watch.leave.Goals as goal
 
 pub drop_hit-requires : goal.drop_hit-requires
@@ -23,11 +22,3 @@ invariant_of-self c =
           (subst (λ (games : List Entry). c.args.i < length games) (sym is) c.requires.game)
           (ap (λ (games : List Entry). counted (entry_at games c.args.i)) is ∙ c.requires.counted) c.self.invariant.1 c.drop_hit.ensures.rows,
     )
-
-pub returns-clause-others : goal.returns-clause-others
-returns-clause-others c key not =
-    let is = ap (λ (w : Watched). w.games) c.self.view_is in
-    leaves-others c.self.inside.games.items c.args.i c.args.hit.now key
-    (subst (λ (games : List Entry). c.args.i < length games) (sym is) c.requires.game)
-    (ap (λ (games : List Entry). counted (entry_at games c.args.i)) is ∙ c.requires.counted) not
-    ∙ ap (λ (games : List Entry). row_at key (rows_of (hits_in games))) is

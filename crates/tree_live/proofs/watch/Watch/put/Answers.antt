@@ -1,8 +1,8 @@
 use Rattle.std.proofs.Common.{◌<◌, ◌∙◌, List, length, sym, ap, subst}
 use Rattle.tree_live.specs.declared.entry.Entry.{Entry}
-use Rattle.tree_live.specs.Watching.{Watched, counted, hits_in}
+use Rattle.tree_live.specs.Watching.{Watched, counted}
 use Rattle.tree_live.specs.Keeping.{entry_at}
-use Rattle.tree_live.proofs.HitLaws.{hits-same, same-sums}
+use Rattle.tree_live.proofs.HitLaws.{same-sums}
 use Rattle.tree_live.proofs.watch.Watch.put.Goals as goal
 
 pub invariant_of-self : goal.invariant_of-self
@@ -13,9 +13,3 @@ invariant_of-self c =
           (subst (λ (games : List Entry). c.args.i < length games) (sym is) c.requires.game)
           (c.requires.same ∙ ap (λ (games : List Entry). counted (entry_at games c.args.i)) (sym is)) c.self.invariant.1,
     )
-
-pub returns-clause-same : goal.returns-clause-same
-returns-clause-same c =
-    let is = ap (λ (w : Watched). w.games) c.self.view_is in
-    hits-same c.self.inside.games.items c.args.i c.args.game (subst (λ (games : List Entry). c.args.i < length games) (sym is) c.requires.game)
-    (c.requires.same ∙ ap (λ (games : List Entry). counted (entry_at games c.args.i)) (sym is)) ∙ ap hits_in is
