@@ -5,6 +5,7 @@ use Rattle.std.proofs.lemmas.Bool.{eqb-true, eqb-false, ltb-true, ltb-false}
 use Rattle.tree_rows.specs.declared.row.Row.{Row}
 use Rattle.tree_live.specs.Watching.{Watched}
 use Rattle.tree_live.specs.Slots.{Slotted, IsShown, IsTold, in_slot}
+use Rattle.tree_live.specs.Views.{Told}
 use Rattle.client_desk.specs.declared.change.Change.{Change}
 use Rattle.client_desk.specs.Seats.{Seated, IsSlot, SeatTold, ShowsSeat}
 use Rattle.client_desk.specs.Changes.{Follows, most_told}
@@ -24,13 +25,13 @@ apart-pair seats apart j l d differ below_j below_l i in_j in_l = by (nat_lt j l
         back true f = apart l j d (ltb-true l j f) below_j i in_l in_j
         back false f = differ (omega (arith, ltb-false j l e, ltb-false l j f))
 
-told-from : {B : Type 0} (told : B → ℕ) (most : Option ℕ) (before again after : Option B) → again ≡ before → IsTold told most again after → IsTold told most before after
+told-from : {B : Type 0} (told : B → Told) (most : Option ℕ) (before again after : Option B) → again ≡ before → IsTold told most again after → IsTold told most before after
 told-from told most before again after same h = subst (λ (slot : Option _). IsTold told most slot after) same h
 
-told-to : {B : Type 0} (told : B → ℕ) (most : Option ℕ) (before after again : Option B) → again ≡ after → IsTold told most before after → IsTold told most before again
+told-to : {B : Type 0} (told : B → Told) (most : Option ℕ) (before after again : Option B) → again ≡ after → IsTold told most before after → IsTold told most before again
 told-to told most before after again same h = subst (λ (slot : Option _). IsTold told most before slot) (sym same) h
 
-told-nothing : {B : Type 0} (rows : B → List Row) (told : B → ℕ) (few : Watched → ℕ) (watch : Option Watched) (slot : Option B) → IsShown rows watch slot
+told-nothing : {B : Type 0} (rows : B → List Row) (told : B → Told) (few : Watched → ℕ) (watch : Option Watched) (slot : Option B) → IsShown rows watch slot
     → IsTold told (option_map few watch) slot slot
 told-nothing rows told few None slot h = refl
 told-nothing rows told few (Some watch) None h = absurd h
@@ -47,7 +48,7 @@ first-of : (seats : List Seated) {c : ℕ} → c < length seats → Seated
 first-of [] below = absurd (omega (arith, below))
 first-of (seat ∷ seats) below = seat
 
-pub echo-none : {B : Type 0} (rows : B → List Row) (told : B → ℕ) (by : ℕ) (change : Change) (seats : List Seated) (views : List (Option B))
+pub echo-none : {B : Type 0} (rows : B → List Row) (told : B → Told) (by : ℕ) (change : Change) (seats : List Seated) (views : List (Option B))
     → All (λ (seat : Seated). ShowsSeat rows seat views) seats → Echoing rows told by change 0 seats seats views views
 echo-none rows told by change seats views shown = record {
   all = record {
@@ -65,7 +66,7 @@ echo-none rows told by change seats views shown = record {
 }
 
 -- One more seat, whether or not it went well.
-pub echo-told : {B : Type 0} (rows : B → List Row) (told : B → ℕ) (by : ℕ) (change : Change) (c : ℕ) (s0 s s1 : List Seated) (v0 v v1 : List (Option B))
+pub echo-told : {B : Type 0} (rows : B → List Row) (told : B → Told) (by : ℕ) (change : Change) (c : ℕ) (s0 s s1 : List Seated) (v0 v v1 : List (Option B))
     → AllPairs Apart s0 → c < length s0 → Echoing rows told by change c s0 s v0 v → ToldAt told by change c s s1 v v1 → EchoTold told by change s0 v0 v1
 echo-told rows told by change c s0 s s1 v0 v v1 apart below echoing at = case (c == by) refl
   where
@@ -118,7 +119,7 @@ echo-told rows told by change c s0 s s1 v0 v v1 apart below echoing at = case (c
         number = (seat (first-of s0 below)).number ∙ echoing.all.number
 
 -- One more seat that follows.
-pub echo-more : {B : Type 0} (rows : B → List Row) (told : B → ℕ) (by : ℕ) (change : Change) (c : ℕ) (s0 s s1 : List Seated) (v0 v v1 : List (Option B))
+pub echo-more : {B : Type 0} (rows : B → List Row) (told : B → Told) (by : ℕ) (change : Change) (c : ℕ) (s0 s s1 : List Seated) (v0 v v1 : List (Option B))
     → AllPairs Apart s0 → c < length s0 → Echoing rows told by change c s0 s v0 v → ToldAt told by change c s s1 v v1 → DoneAt rows by change c s s1 v1
     → Echoing rows told by change (c + 1) s0 s1 v0 v1
 echo-more rows told by change c s0 s s1 v0 v v1 apart below echoing at done = record {
@@ -181,7 +182,7 @@ echo-more rows told by change c s0 s s1 v0 v v1 apart below echoing at done = re
         (echoing.shown j d within k few))
 
 -- All seats.
-pub echo-all : {B : Type 0} (rows : B → List Row) (told : B → ℕ) (by : ℕ) (change : Change) (c : ℕ) (s0 s : List Seated) (v0 v : List (Option B))
+pub echo-all : {B : Type 0} (rows : B → List Row) (told : B → Told) (by : ℕ) (change : Change) (c : ℕ) (s0 s : List Seated) (v0 v : List (Option B))
     → length s0 ≤ c → Echoing rows told by change c s0 s v0 v → Echoed by change s0 s
 echo-all rows told by change c s0 s v0 v past echoing = record {
   own = echoing.own;
@@ -189,6 +190,6 @@ echo-all rows told by change c s0 s v0 v past echoing = record {
   number = echoing.number;
 }
 
-pub echo-shown : {B : Type 0} (rows : B → List Row) (told : B → ℕ) (by : ℕ) (change : Change) (c : ℕ) (s0 s : List Seated) (v0 v : List (Option B))
+pub echo-shown : {B : Type 0} (rows : B → List Row) (told : B → Told) (by : ℕ) (change : Change) (c : ℕ) (s0 s : List Seated) (v0 v : List (Option B))
     → Echoing rows told by change c s0 s v0 v → All (λ (seat : Seated). ShowsSeat rows seat v) s
 echo-shown rows told by change c s0 s v0 v echoing = λ j d below. echoing.shown j d (omega (arith, below, echoing.number))

@@ -12,6 +12,7 @@ use Rattle.tree_rows.specs.declared.hit.GameHit.{GameHit}
 use Rattle.tree_live.specs.declared.entry.Entry.{Entry}
 use Rattle.tree_live.specs.Watching.{Watched, under, all_out, all_changes, with_game}
 use Rattle.tree_live.specs.Slots.{Slotted, AreChanged, AreTold, EachWatch, IsTold, in_slot}
+use Rattle.tree_live.specs.Views.{Told}
 use Rattle.client_desk.specs.declared.change.Change.{Change}
 use Rattle.client_desk.specs.declared.change.Change.TheVariants.{Added, Edited, Renumbered}
 use Rattle.client_desk.specs.Seats.{Seated, IsSeat, IsSlot, GoesBy, SeatTold}
@@ -36,7 +37,7 @@ pub within-changed : (f : ℕ → Watched → Watched) (old new : Slotted) → A
 within-changed f old new changed same within = λ k past. changed k ∙ ap (option_map (f k)) (within k (omega (arith, past, same)))
 
 -- Told slots are the slots of a seat.
-pub told-seat : {B : Type 0} (told : B → ℕ) (slots : Slotted) (most : ℕ → Watched → ℕ) (before after : List (Option B)) → Within slots
+pub told-seat : {B : Type 0} (told : B → Told) (slots : Slotted) (most : ℕ → Watched → ℕ) (before after : List (Option B)) → Within slots
     → AreTold told slots most before after → SeatTold told slots most before after
 told-seat told slots most before after within all = record {
   slots_told = λ k below. all.views k;
@@ -61,12 +62,12 @@ told-seat told slots most before after within all = record {
         past-of i from outside true e = absurd (outside (from, ltb-true i (slots.first + slots.count) e))
         past-of i from outside false e = omega (arith, from, ltb-false i (slots.first + slots.count) e)
 
-pub told-here : {B : Type 0} (told : B → ℕ) (here slots : Slotted) (most : ℕ → Watched → ℕ) (before after : List (Option B)) → here ≡ slots → Within slots
+pub told-here : {B : Type 0} (told : B → Told) (here slots : Slotted) (most : ℕ → Watched → ℕ) (before after : List (Option B)) → here ≡ slots → Within slots
     → AreTold told slots most before after → SeatTold told here most before after
 told-here told here slots most before after same within all =
     subst (λ (s : Slotted). SeatTold told s most before after) (sym same) (told-seat told slots most before after within all)
 
-pub told-follow : {B : Type 0} (told : B → ℕ) (entry : Option ℕ) (change : Change) (here old : Seated) (before after : List (Option B)) → old ≡ here → IsSeat old
+pub told-follow : {B : Type 0} (told : B → Told) (entry : Option ℕ) (change : Change) (here old : Seated) (before after : List (Option B)) → old ≡ here → IsSeat old
     → AreTold told old.slots (most_told entry change old) before after → SeatTold told here.slots (most_told entry change here) before after
 told-follow told entry change here old before after same seat all =
     subst (λ (s : Seated). SeatTold told s.slots (most_told entry change s) before after) same
@@ -233,7 +234,7 @@ tells-edited old new first game hits plies entry e =
     subst (λ (o : Option ℕ). AreChanged (λ k watch. record watch { games = with_game game (game_with o hits (first + k)) watch.games }) old new)
     (sym (entry-at plies game entry e))
 
-pub told-edited : {B : Type 0} (told : B → ℕ) (slots : Slotted) (before after : List (Option B)) (first game : ℕ) (hits : List (Option GameHit)) (plies : List (Option ℕ)) (entry : Option ℕ)
+pub told-edited : {B : Type 0} (told : B → Told) (slots : Slotted) (before after : List (Option B)) (first game : ℕ) (hits : List (Option GameHit)) (plies : List (Option ℕ)) (entry : Option ℕ)
     → slice_get plies game ≡ Some entry
     → AreTold told slots (λ k watch. all_changes watch.games (with_game game (game_with entry hits (first + k)) watch.games)) before after
     → AreTold told slots (λ k watch. all_changes watch.games (with_game game (game_with (get_or plies game None) hits (first + k)) watch.games)) before after

@@ -1,6 +1,7 @@
 -- Four clients on one base (this project's own).
 use Rattle.std.specs.Prelude.{◌≡◌, ℕ, ◌+◌, ◌<◌, Bool, false, List, [], ◌∷◌, Option, None, length, replicate, slice_index_or, option_map}
 use Rattle.tree_live.specs.Slots.{IsTold, in_slot}
+use Rattle.tree_live.specs.Views.{Told}
 use Rattle.client_desk.specs.declared.change.Change.{Change}
 use Rattle.client_desk.specs.Seats.{Seated, IsSlot, new_seat}
 use Rattle.client_desk.specs.Changes.{Follows, most_told}
@@ -33,7 +34,7 @@ IsOthers by seats i = (c : ℕ) × (d : Seated) × (c ≡ by → ⊥) × (c < le
 
 -- Each slot of the others that is watched holds its view still, which was told at most as many changes as the change is there, and every other
 -- view is as before.
-pub record EchoTold {B : Type 0} (told : B → ℕ) (by : ℕ) (change : Change) (seats : List Seated) (before after : List (Option B)) : Type 0 where
+pub record EchoTold {B : Type 0} (told : B → Told) (by : ℕ) (change : Change) (seats : List Seated) (before after : List (Option B)) : Type 0 where
   pub slots : (c k : ℕ) (d : Seated) → (c ≡ by → ⊥) → c < length seats → k < (slice_index_or seats c d).slots.count
       → IsTold told (option_map (most_told None change (slice_index_or seats c d) k) (in_slot (slice_index_or seats c d).slots.watches k))
       (in_slot before ((slice_index_or seats c d).slots.first + k)) (in_slot after ((slice_index_or seats c d).slots.first + k))

@@ -6,6 +6,7 @@ use Rattle.filter_seat.specs.declared.saved.SavedFilter.{SavedFilter}
 use Rattle.tree_rows.specs.declared.row.Row.{Row}
 use Rattle.tree_live.specs.Watching.{Watched}
 use Rattle.tree_live.specs.Slots.{Slotted, EachWatch, IsShown, IsTold, in_slot}
+use Rattle.tree_live.specs.Views.{Told}
 
 -- The filter, the filters that are kept by name, and the slots, some of which show trees.
 pub record Seated : Type 0 where
@@ -49,7 +50,7 @@ abbrev pub ShowsSeat : {B : Type 0} → (B → List Row) → Seated → List (Op
 ShowsSeat rows seat views = (k : ℕ) → k < seat.slots.count → IsShown rows (in_slot seat.slots.watches k) (in_slot views (seat.slots.first + k))
 
 -- Each slot that is watched holds its view still, which was told at most so many changes, and every other view is as before.
-pub record SeatTold {B : Type 0} (told : B → ℕ) (slots : Slotted) (most : ℕ → Watched → ℕ) (before after : List (Option B)) : Type 0 where
+pub record SeatTold {B : Type 0} (told : B → Told) (slots : Slotted) (most : ℕ → Watched → ℕ) (before after : List (Option B)) : Type 0 where
   pub slots_told : (k : ℕ) → k < slots.count → IsTold told (option_map (most k) (in_slot slots.watches k)) (in_slot before (slots.first + k)) (in_slot after (slots.first + k))
   pub others : (i : ℕ) → (IsSlot slots i → ⊥) → in_slot after i ≡ in_slot before i
   pub number : length after ≡ length before

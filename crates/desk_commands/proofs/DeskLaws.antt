@@ -17,6 +17,7 @@ use Rattle.shell_state.specs.Slots.Slot.{empty, idle, shows}
 use Rattle.shell_state.specs.Stands.{Holding, Stands, Tables}
 use Rattle.shell_state.specs.State.{Shared, State}
 use Rattle.tree_live.specs.Slots.{in_slot}
+use Rattle.tree_live.specs.Views.{Told}
 use Rattle.tree_rows.specs.declared.row.Row.{Row}
 use Rattle.view_commands.specs.Views.{AreLeft, AreRight, AreToldAtMost, IsRight, IsToldAtMost, changes_of, is_own, is_shown, slot_hits}
 use Rattle.view_commands.specs.declared.window.Window.{Window}
@@ -130,11 +131,11 @@ slots_public w s t is = task_stays w s t (λ k board side same. true≢false (sy
 -- ---- the views
 
 -- Behind the command of a client, before and after it was shown to the others: of a private one they are shown nothing.
-pub data ToOthers {B : Type 0} (rows : B → List Row) (told : B → ℕ) (d : Desk) (c : ℕ) (t : Task) (mid after : List (Option B)) : Type 0 where
+pub data ToOthers {B : Type 0} (rows : B → List Row) (told : B → Told) (d : Desk) (c : ℕ) (t : Task) (mid after : List (Option B)) : Type 0 where
   none_shown : is_private (order_kind t.order) ≡ true → after ≡ mid → ToOthers rows told d c t mid after
   all_shown : is_private (order_kind t.order) ≡ false → AreShownTo rows told (but_one c (number_of d.clients.tagged)) d (desk_by d c t) mid after → ToOthers rows told d c t mid after
 
-pub record Shown {B : Type 0} (rows : B → List Row) (told : B → ℕ) (d : Desk) (c : ℕ) (t : Task) (before mid after : List (Option B)) : Type 0 where
+pub record Shown {B : Type 0} (rows : B → List Row) (told : B → Told) (d : Desk) (c : ℕ) (t : Task) (before mid after : List (Option B)) : Type 0 where
   pub there : c < length d.seats
   pub room : c < number_of d.clients.tagged
   pub right : AllRight rows d before
@@ -144,31 +145,31 @@ pub record Shown {B : Type 0} (rows : B → List Row) (told : B → ℕ) (d : De
   pub others : ToOthers rows told d c t mid after
 
 -- A slot that is no other client's keeps its view while it is shown to them.
-stays : {B : Type 0} (rows : B → List Row) (told : B → ℕ) (d : Desk) (c : ℕ) (t : Task) (mid after : List (Option B)) (i : ℕ) → ((client : ℕ) → but_one c (number_of d.clients.tagged) client ≡ true → is_own (window_of d.clients client) i ≡ false)
+stays : {B : Type 0} (rows : B → List Row) (told : B → Told) (d : Desk) (c : ℕ) (t : Task) (mid after : List (Option B)) (i : ℕ) → ((client : ℕ) → but_one c (number_of d.clients.tagged) client ≡ true → is_own (window_of d.clients client) i ≡ false)
     → ToOthers rows told d c t mid after → in_slot after i ≡ in_slot mid i
 stays rows told d c t mid after i none (none_shown is same) = ap (λ views. in_slot views i) same
 stays rows told d c t mid after i none (all_shown is shown) = shown.others i none
 
-unshown_stays : {B : Type 0} (rows : B → List Row) (told : B → ℕ) (d : Desk) (c : ℕ) (t : Task) (mid after : List (Option B)) (i : ℕ) → is_shown (slot_at d.slots i) ≡ false → ToOthers rows told d c t mid after → in_slot after i ≡ in_slot mid i
+unshown_stays : {B : Type 0} (rows : B → List Row) (told : B → Told) (d : Desk) (c : ℕ) (t : Task) (mid after : List (Option B)) (i : ℕ) → is_shown (slot_at d.slots i) ≡ false → ToOthers rows told d c t mid after → in_slot after i ≡ in_slot mid i
 unshown_stays rows told d c t mid after i none (none_shown is same) = ap (λ views. in_slot views i) same
 unshown_stays rows told d c t mid after i none (all_shown is shown) = shown.left i none
 
 -- A slot of another client.
-other_right : {B : Type 0} (rows : B → List Row) (told : B → ℕ) (d : Desk) (c o : ℕ) (t : Task) (mid after : List (Option B)) (i : ℕ) → (c ≡ o → ⊥) → o < number_of d.clients.tagged → is_own (window_of d.clients o) i ≡ true
+other_right : {B : Type 0} (rows : B → List Row) (told : B → Told) (d : Desk) (c o : ℕ) (t : Task) (mid after : List (Option B)) (i : ℕ) → (c ≡ o → ⊥) → o < number_of d.clients.tagged → is_own (window_of d.clients o) i ≡ true
     → IsRight rows (seen_by d o) (slot_at d.slots i) (in_slot mid i) → ToOthers rows told d c t mid after → IsRight rows (seen_by (desk_by d c t) o) (slot_at d.slots i) (in_slot after i)
 other_right rows told d c o t mid after i differ less own right (none_shown is same) =
     subst (λ views. IsRight rows (seen_by (desk_by d c t) o) (slot_at d.slots i) (in_slot views i)) (sym same)
     (right_like rows (seen_by d o) (seen_by (desk_by d c t) o) (slot_at d.slots i) (in_slot mid i) (seen_private d c t o differ is) right)
 other_right rows told d c o t mid after i differ less own right (all_shown is shown) = shown.right o i (is_one_of c (number_of d.clients.tagged) o less (λ same. differ (sym same))) own
 
-other_told : {B : Type 0} (rows : B → List Row) (told : B → ℕ) (d : Desk) (c o : ℕ) (t : Task) (before mid after : List (Option B)) (i : ℕ) → (c ≡ o → ⊥) → o < number_of d.clients.tagged → is_own (window_of d.clients o) i ≡ true
+other_told : {B : Type 0} (rows : B → List Row) (told : B → Told) (d : Desk) (c o : ℕ) (t : Task) (before mid after : List (Option B)) (i : ℕ) → (c ≡ o → ⊥) → o < number_of d.clients.tagged → is_own (window_of d.clients o) i ≡ true
     → in_slot mid i ≡ in_slot before i → ToOthers rows told d c t mid after → IsToldAtMost told (changes_of (seen_by d o) (seen_by (desk_by d c t) o) (slot_at d.slots i)) (in_slot before i) (in_slot after i)
 other_told rows told d c o t before mid after i differ less own kept (none_shown is same) = told_same told _ (in_slot before i) (in_slot after i) (ap (λ views. in_slot views i) same ∙ kept)
 other_told rows told d c o t before mid after i differ less own kept (all_shown is shown) =
     told_behind told _ (in_slot before i) (in_slot mid i) (in_slot after i) kept (shown.counted o i (is_one_of c (number_of d.clients.tagged) o less (λ same. differ (sym same))) own)
 
 -- What is to be shown of a slot.
-record SlotDone {B : Type 0} (rows : B → List Row) (told : B → ℕ) (d : Desk) (c : ℕ) (t : Task) (i : ℕ) (before after : Option B) : Type 0 where
+record SlotDone {B : Type 0} (rows : B → List Row) (told : B → Told) (d : Desk) (c : ℕ) (t : Task) (i : ℕ) (before after : Option B) : Type 0 where
   right : IsRight rows (seen_by (desk_by d c t) (owner d.clients.tagged i)) (slot_at (desk_by d c t).slots i) after
   counted : IsToldAtMost told (most_told_by d c t i) before after
 
@@ -179,7 +180,7 @@ told_other : (d : Desk) (c : ℕ) (t : Task) (i : ℕ) → is_own (window_of d.c
     → most_told_by d c t i ≡ changes_of (seen_by d (owner d.clients.tagged i)) (seen_by (desk_by d c t) (owner d.clients.tagged i)) (slot_at d.slots i)
 told_other d c t i none = rw (watch_not (window_of d.clients c) t.order i none) refl
 
-far_done : {B : Type 0} (rows : B → List Row) (told : B → ℕ) (d : Desk) (c : ℕ) (t : Task) (before mid after : List (Option B)) (i : ℕ) → Shown rows told d c t before mid after → 8 ≤ i → SlotDone rows told d c t i (in_slot before i) (in_slot after i)
+far_done : {B : Type 0} (rows : B → List Row) (told : B → Told) (d : Desk) (c : ℕ) (t : Task) (before mid after : List (Option B)) (i : ℕ) → Shown rows told d c t before mid after → 8 ≤ i → SlotDone rows told d c t i (in_slot before i) (in_slot after i)
 far_done rows told d c t before mid after i shown far =
     let none : is_own (window_of d.clients c) i ≡ false = far_own d.clients c i shown.room far in
     let same : in_slot after i ≡ in_slot before i =
@@ -193,7 +194,7 @@ far_done rows told d c t before mid after i shown far =
       counted = told_same told _ (in_slot before i) (in_slot after i) same;
     }
 
-other_done : {B : Type 0} (rows : B → List Row) (told : B → ℕ) (d : Desk) (c : ℕ) (t : Task) (before mid after : List (Option B)) (i : ℕ) → Shown rows told d c t before mid after → i < 8 → (c ≡ owner d.clients.tagged i → ⊥)
+other_done : {B : Type 0} (rows : B → List Row) (told : B → Told) (d : Desk) (c : ℕ) (t : Task) (before mid after : List (Option B)) (i : ℕ) → Shown rows told d c t before mid after → i < 8 → (c ≡ owner d.clients.tagged i → ⊥)
     → SlotDone rows told d c t i (in_slot before i) (in_slot after i)
 other_done rows told d c t before mid after i shown near differ =
     let o : ℕ = owner d.clients.tagged i in
@@ -206,7 +207,7 @@ other_done rows told d c t before mid after i shown near differ =
       counted = subst (λ (most : ℕ). IsToldAtMost told most (in_slot before i) (in_slot after i)) (sym (told_other d c t i none)) (other_told rows told d c o t before mid after i differ has.1 has.0 kept shown.others);
     }
 
-own_right : {B : Type 0} (rows : B → List Row) (told : B → ℕ) (d : Desk) (c : ℕ) (t : Task) (before mid after : List (Option B)) (i : ℕ) → Shown rows told d c t before mid after → i < 8 → owner d.clients.tagged i ≡ c
+own_right : {B : Type 0} (rows : B → List Row) (told : B → Told) (d : Desk) (c : ℕ) (t : Task) (before mid after : List (Option B)) (i : ℕ) → Shown rows told d c t before mid after → i < 8 → owner d.clients.tagged i ≡ c
     → SlotDone rows told d c t i (in_slot before i) (in_slot after i)
 own_right rows told d c t before mid after i shown near is =
     let w : Window = window_of d.clients c in
@@ -226,7 +227,7 @@ own_right rows told d c t before mid after i shown near is =
           (subst (λ (b : Bool). IsToldAtMost told (cond b (most later) 0) (in_slot before i) (in_slot mid i)) own (shown.done.counted i))));
     }
 
-slot_done : {B : Type 0} (rows : B → List Row) (told : B → ℕ) (d : Desk) (c : ℕ) (t : Task) (before mid after : List (Option B)) (i : ℕ) → Shown rows told d c t before mid after → SlotDone rows told d c t i (in_slot before i) (in_slot after i)
+slot_done : {B : Type 0} (rows : B → List Row) (told : B → Told) (d : Desk) (c : ℕ) (t : Task) (before mid after : List (Option B)) (i : ℕ) → Shown rows told d c t before mid after → SlotDone rows told d c t i (in_slot before i) (in_slot after i)
 slot_done rows told d c t before mid after i shown = by-place (nat_lt i 8) refl
   where
     by-owner : (b : Bool) → (owner d.clients.tagged i == c) ≡ b → i < 8 → SlotDone rows told d c t i (in_slot before i) (in_slot after i)
@@ -237,10 +238,10 @@ slot_done rows told d c t before mid after i shown = by-place (nat_lt i 8) refl
     by-place true e = by-owner (owner d.clients.tagged i == c) refl (ltb-true i 8 e)
     by-place false e = far_done rows told d c t before mid after i shown (grind (arith, e))
 
-pub right_behind : {B : Type 0} (rows : B → List Row) (told : B → ℕ) (d : Desk) (c : ℕ) (t : Task) (before mid after : List (Option B)) → Shown rows told d c t before mid after → AllRight rows (desk_by d c t) after
+pub right_behind : {B : Type 0} (rows : B → List Row) (told : B → Told) (d : Desk) (c : ℕ) (t : Task) (before mid after : List (Option B)) → Shown rows told d c t before mid after → AllRight rows (desk_by d c t) after
 right_behind rows told d c t before mid after shown i = (slot_done rows told d c t before mid after i shown).right
 
-pub told_most : {B : Type 0} (rows : B → List Row) (told : B → ℕ) (d : Desk) (c : ℕ) (t : Task) (before mid after : List (Option B)) → Shown rows told d c t before mid after → AreToldAtMost told (most_told_by d c t) before after
+pub told_most : {B : Type 0} (rows : B → List Row) (told : B → Told) (d : Desk) (c : ℕ) (t : Task) (before mid after : List (Option B)) → Shown rows told d c t before mid after → AreToldAtMost told (most_told_by d c t) before after
 told_most rows told d c t before mid after shown i = (slot_done rows told d c t before mid after i shown).counted
 
 neither : (a b : Bool) → (a || b) ≡ false → (a ≡ false) × (b ≡ false)
@@ -282,33 +283,33 @@ far_unshown holding seen s st none i far =
 
 -- ---- where it was shown, or was not to be
 
-shown_by : {B : Type 0} (rows : B → List Row) (told : B → ℕ) (d : Desk) (c : ℕ) (t : Task) (mid after : List (Option B)) (b : Bool) → is_private (order_kind t.order) ≡ b → (is_private (order_kind t.order) ≡ true → after ≡ mid)
+shown_by : {B : Type 0} (rows : B → List Row) (told : B → Told) (d : Desk) (c : ℕ) (t : Task) (mid after : List (Option B)) (b : Bool) → is_private (order_kind t.order) ≡ b → (is_private (order_kind t.order) ≡ true → after ≡ mid)
     → (is_private (order_kind t.order) ≡ false → AreShownTo rows told (but_one c (number_of d.clients.tagged)) d (desk_by d c t) mid after) → ToOthers rows told d c t mid after
 shown_by rows told d c t mid after true is none all = none_shown is (none is)
 shown_by rows told d c t mid after false is none all = all_shown is (all is)
 
-to_others : {A E B : Type 0} (r : Result A E) (rows : B → List Row) (told : B → ℕ) (d : Desk) (c : ℕ) (t : Task) (mid after : List (Option B)) → (is_private (order_kind t.order) ≡ true → after ≡ mid)
+to_others : {A E B : Type 0} (r : Result A E) (rows : B → List Row) (told : B → Told) (d : Desk) (c : ℕ) (t : Task) (mid after : List (Option B)) → (is_private (order_kind t.order) ≡ true → after ≡ mid)
     → (is_private (order_kind t.order) ≡ false → OnOk r (AreShownTo rows told (but_one c (number_of d.clients.tagged)) d (desk_by d c t) mid after)) → OnOk r (ToOthers rows told d c t mid after)
 to_others (Ok x) rows told d c t mid after none all = shown_by rows told d c t mid after (is_private (order_kind t.order)) refl none all
 to_others (Err e) rows told d c t mid after none all = tt
 
-pub all_shown_to : {A E B : Type 0} (r : Result A E) (rows : B → List Row) (told : B → ℕ) (d : Desk) (c : ℕ) (t : Task) (before mid after : List (Option B)) → c < length d.seats → c < number_of d.clients.tagged → AllRight rows d before
+pub all_shown_to : {A E B : Type 0} (r : Result A E) (rows : B → List Row) (told : B → Told) (d : Desk) (c : ℕ) (t : Task) (before mid after : List (Option B)) → c < length d.seats → c < number_of d.clients.tagged → AllRight rows d before
     → ViewsDone rows told (window_of d.clients c) (seen_by d c) t before mid → AreLeft (touches (window_of d.clients c) (seen_by d c) t.order) before mid → ((i : ℕ) → 8 ≤ i → is_shown (slot_at d.slots i) ≡ false)
     → (is_private (order_kind t.order) ≡ true → after ≡ mid) → (is_private (order_kind t.order) ≡ false → OnOk r (AreShownTo rows told (but_one c (number_of d.clients.tagged)) d (desk_by d c t) mid after)) → OnOk r (Shown rows told d c t before mid after)
 all_shown_to r rows told d c t before mid after there room right done left few none all =
     shown_ok r rows told d c t before mid after there room right done left few (to_others r rows told d c t mid after none all)
   where
-    shown_ok : {A E B : Type 0} (r : Result A E) (rows : B → List Row) (told : B → ℕ) (d : Desk) (c : ℕ) (t : Task) (before mid after : List (Option B)) → c < length d.seats → c < number_of d.clients.tagged → AllRight rows d before
+    shown_ok : {A E B : Type 0} (r : Result A E) (rows : B → List Row) (told : B → Told) (d : Desk) (c : ℕ) (t : Task) (before mid after : List (Option B)) → c < length d.seats → c < number_of d.clients.tagged → AllRight rows d before
         → ViewsDone rows told (window_of d.clients c) (seen_by d c) t before mid → AreLeft (touches (window_of d.clients c) (seen_by d c) t.order) before mid → ((i : ℕ) → 8 ≤ i → is_shown (slot_at d.slots i) ≡ false)
         → OnOk r (ToOthers rows told d c t mid after) → OnOk r (Shown rows told d c t before mid after)
     shown_ok (Ok x) rows told d c t before mid after there room right done left few others = record { there = there; room = room; right = right; done = done; left = left; few = few; others = others }
     shown_ok (Err e) rows told d c t before mid after there room right done left few others = tt
 
-pub ok_right : {A E B : Type 0} (r : Result A E) (rows : B → List Row) (told : B → ℕ) (d : Desk) (c : ℕ) (t : Task) (before mid after : List (Option B)) → OnOk r (Shown rows told d c t before mid after) → OnOk r (AllRight rows (desk_by d c t) after)
+pub ok_right : {A E B : Type 0} (r : Result A E) (rows : B → List Row) (told : B → Told) (d : Desk) (c : ℕ) (t : Task) (before mid after : List (Option B)) → OnOk r (Shown rows told d c t before mid after) → OnOk r (AllRight rows (desk_by d c t) after)
 ok_right (Ok x) rows told d c t before mid after shown = right_behind rows told d c t before mid after shown
 ok_right (Err e) rows told d c t before mid after shown = tt
 
-pub ok_told : {A E B : Type 0} (r : Result A E) (rows : B → List Row) (told : B → ℕ) (d : Desk) (c : ℕ) (t : Task) (before mid after : List (Option B)) → OnOk r (Shown rows told d c t before mid after) → OnOk r (AreToldAtMost told (most_told_by d c t) before after)
+pub ok_told : {A E B : Type 0} (r : Result A E) (rows : B → List Row) (told : B → Told) (d : Desk) (c : ℕ) (t : Task) (before mid after : List (Option B)) → OnOk r (Shown rows told d c t before mid after) → OnOk r (AreToldAtMost told (most_told_by d c t) before after)
 ok_told (Ok x) rows told d c t before mid after shown = told_most rows told d c t before mid after shown
 ok_told (Err e) rows told d c t before mid after shown = tt
 

@@ -24,6 +24,7 @@ use Rattle.shell_state.specs.Work.{Work}
 use Rattle.shell_state.specs.declared.halt.Halt.{Halt}
 use Rattle.shell_state.specs.declared.halt.Halt.TheVariants as halt
 use Rattle.tree_live.specs.Slots.{in_slot}
+use Rattle.tree_live.specs.Views.{Told}
 use Rattle.tree_rows.specs.declared.row.Row.{Row}
 use Rattle.view_commands.specs.Views.{AreLeft, AreToldAtMost, IsToldAtMost, all_slots, changes_of, is_shown, slot_hits}
 use Rattle.view_commands.specs.declared.window.Window.{Window}
@@ -52,7 +53,7 @@ is_late d line client some ended = record {
   order = ap (λ (o : Option ℕ). effective d.clients o line.order) some ∙ rw ended refl;
 }
 
-pub idle_shown : {B : Type 0} (rows : B → List Row) (told : B → ℕ) (d : Desk) (line : Line) (text : List ℕ) (views : List (Option B)) → IsIdle d line → AllRight rows d views → LineShown rows told d (tagged_task line text) views views
+pub idle_shown : {B : Type 0} (rows : B → List Row) (told : B → Told) (d : Desk) (line : Line) (text : List ℕ) (views : List (Option B)) → IsIdle d line → AllRight rows d views → LineShown rows told d (tagged_task line text) views views
 idle_shown rows told d line text views idle right = record {
   right = subst (λ (x : Desk). AllRight rows (record x { clients = heard d.clients (said line.client line.order) }) views) (sym (idle.done (task line.order text))) right;
   counted = λ i. told_same told (line_told d (tagged_task line text) i) (in_slot views i) (in_slot views i) refl;
@@ -157,7 +158,7 @@ pub speaks_left : {B : Type 0} (d : Desk) (line : Line) (client : ℕ) (before a
     → AreLeft (λ i. is_shown (slot_at d.slots i) || watches (window_of d.clients client) line.order i) before after → AreLeft (line_touches d line) before after
 speaks_left d line client before after says left i none = left i (ap (λ (b : Bool). is_shown (slot_at d.slots i) || b) (sym (speaks_watches d line client i says)) ∙ none)
 
-pub speaks_shown : {B : Type 0} (rows : B → List Row) (told : B → ℕ) (d : Desk) (line : Line) (client : ℕ) (body : List ℕ) (before after : List (Option B)) → Speaks d line client → AllRight rows (desk_by d client (task line.order body)) after
+pub speaks_shown : {B : Type 0} (rows : B → List Row) (told : B → Told) (d : Desk) (line : Line) (client : ℕ) (body : List ℕ) (before after : List (Option B)) → Speaks d line client → AllRight rows (desk_by d client (task line.order body)) after
     → AreToldAtMost told (most_told_by d client (task line.order body)) before after → LineShown rows told d (tagged_task line body) before after
 speaks_shown rows told d line client body before after says right counted = record {
   right = subst (λ (x : Desk). AllRight rows (record x { clients = heard d.clients (said line.client line.order) }) after) (sym (speaks_done d line client (task line.order body) says)) right;
@@ -217,7 +218,7 @@ causes_alone (Err (halt.Changed game kept found)) f b m n causes output = absurd
 pub speaks_of : (d : Desk) (line : Line) (client : ℕ) → line.client ≡ Some client → has_ended d.clients client ≡ false → Speaks d line client
 speaks_of d line client says speaks = record { says = says; speaks = speaks }
 
-pub both_shown : {A E B : Type 0} (r : Result A E) (rows : B → List Row) (told : B → ℕ) (d : Desk) (line : Line) (client : ℕ) (body : List ℕ) (before after : List (Option B)) → Speaks d line client → OnOk r (AllRight rows (desk_by d client (task line.order body)) after)
+pub both_shown : {A E B : Type 0} (r : Result A E) (rows : B → List Row) (told : B → Told) (d : Desk) (line : Line) (client : ℕ) (body : List ℕ) (before after : List (Option B)) → Speaks d line client → OnOk r (AllRight rows (desk_by d client (task line.order body)) after)
     → OnOk r (AreToldAtMost told (most_told_by d client (task line.order body)) before after) → OnOk r (LineShown rows told d (tagged_task line body) before after)
 both_shown (Ok x) rows told d line client body before after says right counted = speaks_shown rows told d line client body before after says right counted
 both_shown (Err e) rows told d line client body before after says right counted = tt

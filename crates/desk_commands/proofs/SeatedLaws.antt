@@ -20,6 +20,7 @@ use Rattle.shell_state.specs.Work.{Work}
 use Rattle.shell_state.specs.declared.halt.Halt.{Halt}
 use Rattle.shell_state.specs.declared.halt.Halt.TheVariants as halt
 use Rattle.tree_live.specs.Slots.{in_slot}
+use Rattle.tree_live.specs.Views.{Told}
 use Rattle.tree_rows.specs.declared.row.Row.{Row}
 use Rattle.view_commands.specs.Views.{AreRight, IsRight, IsToldAtMost, changes_of, slot_hits}
 use Rattle.view_commands.specs.declared.window.Window.{Window}
@@ -121,7 +122,7 @@ most_same w d c t kind own first second i split b =
 abbrev IsRightAt : {B : Type 0} → (B → List Row) → State → List Slot → List (Option B) → ℕ → Type 0
 IsRightAt rows s slots views i = IsRight rows s (slot_at slots i) (in_slot views i)
 
-pub views_behind : {B : Type 0} (rows : B → List Row) (told : B → ℕ) (w : Window) (d : Desk) (c : ℕ) (t : Task) (kind : Kind) (own : Seat) (first second : List Seat) (before after : List (Option B)) → IsSplit d c first own second → Behind w d c t kind own first second
+pub views_behind : {B : Type 0} (rows : B → List Row) (told : B → Told) (w : Window) (d : Desk) (c : ℕ) (t : Task) (kind : Kind) (own : Seat) (first second : List Seat) (before after : List (Option B)) → IsSplit d c first own second → Behind w d c t kind own first second
     → ViewsDone rows told w (lent_at kind d own first second) t before after → ViewsDone rows told w (seen_by d c) t before after
 views_behind rows told w d c t kind own first second before after split b done = record {
   right = λ i is.

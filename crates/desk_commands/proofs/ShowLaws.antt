@@ -11,7 +11,7 @@ use Rattle.shell_state.specs.State.{Shared, State}
 use Rattle.shell_state.specs.Slots.{exactly_on}
 use Rattle.shell_state.specs.Meeting.{tree_hits}
 use Rattle.tree_live.specs.Slots.{in_slot}
-use Rattle.tree_live.specs.Views.{Shows}
+use Rattle.tree_live.specs.Views.{Shows, Told}
 use Rattle.tree_rows.specs.declared.hit.GameHit.{GameHit}
 use Rattle.tree_rows.specs.declared.row.Row.{Row}
 use Rattle.view_commands.specs.Views.{AreLeft, AreRight, AreToldAtMost, IsRight, IsToldAtMost, changes_of, is_own, is_shown, shown_hits, slot_hits}
@@ -60,22 +60,22 @@ right_unshown rows s t empty view none is = is
 right_unshown rows s t idle view none is = is
 right_unshown rows s t (shows board) view none is = absurd cc
 
-abbrev told_in : {B : Type 0} → (B → ℕ) → Option B → ℕ
+abbrev told_in : {B : Type 0} → (B → Told) → Option B → Told
 told_in told None = 0
 told_in told (Some view) = told view
 
-told_some : {B : Type 0} (told : B → ℕ) (most : ℕ) (view later : B) → Some later ≡ Some view → told later ≤ told view + most
+told_some : {B : Type 0} (told : B → Told) (most : ℕ) (view later : B) → Some later ≡ Some view → told later ≤ told view + most
 told_some {B = B} told most view later same =
     let even : told later ≡ told view = ap (λ (o : Option B). told_in told o) same in
     omega (arith, even)
 
-pub told_same : {B : Type 0} (told : B → ℕ) (most : ℕ) (before after : Option B) → after ≡ before → IsToldAtMost told most before after
+pub told_same : {B : Type 0} (told : B → Told) (most : ℕ) (before after : Option B) → after ≡ before → IsToldAtMost told most before after
 told_same told most None after same = same
 told_same told most (Some view) None same = tt
 told_same told most (Some view) (Some later) same = told_some told most view later same
 
 -- First no change, and then some.
-pub told_behind : {B : Type 0} (told : B → ℕ) (most : ℕ) (before mid after : Option B) → mid ≡ before → IsToldAtMost told most mid after → IsToldAtMost told most before after
+pub told_behind : {B : Type 0} (told : B → Told) (most : ℕ) (before mid after : Option B) → mid ≡ before → IsToldAtMost told most mid after → IsToldAtMost told most before after
 told_behind {B = B} told most before mid after same is = subst (λ (view : Option B). IsToldAtMost told most view after) same is
 
 -- ---- one client more is shown
@@ -83,7 +83,7 @@ told_behind {B = B} told most before mid after same is = subst (λ (view : Optio
 abbrev CanTell : ℕ → ℕ → Bool → Type 0
 CanTell by client b = (client == by) ≡ b
 
-pub shown_none : {B : Type 0} (rows : B → List Row) (told : B → ℕ) (by : ℕ) (d later : Desk) (views : List (Option B)) → AreShownTo rows told (but_one by 0) d later views views
+pub shown_none : {B : Type 0} (rows : B → List Row) (told : B → Told) (by : ℕ) (d later : Desk) (views : List (Option B)) → AreShownTo rows told (but_one by 0) d later views views
 shown_none rows told by d later views = record {
   right = λ client i is own. absurd (omega (arith, (one_of by 0 client is).0));
   counted = λ client i is own. absurd (omega (arith, (one_of by 0 client is).0));
@@ -108,7 +108,7 @@ below_step by step client is =
     is_one_of by (step + 1) client (omega (arith, one.0)) one.1
 
 -- The client himself is passed over.
-pub shown_past : {B : Type 0} (rows : B → List Row) (told : B → ℕ) (by : ℕ) (d later : Desk) (before after : List (Option B)) → AreShownTo rows told (but_one by by) d later before after → AreShownTo rows told (but_one by (by + 1)) d later before after
+pub shown_past : {B : Type 0} (rows : B → List Row) (told : B → Told) (by : ℕ) (d later : Desk) (before after : List (Option B)) → AreShownTo rows told (but_one by by) d later before after → AreShownTo rows told (but_one by (by + 1)) d later before after
 shown_past rows told by d later before after shown = record {
   right = λ client i is own. shown.right client i (still client is) own;
   counted = λ client i is own. shown.counted client i (still client is) own;
@@ -126,7 +126,7 @@ shown_past rows told by d later before after shown = record {
 apart : (clients : Clients) (client step i : ℕ) → client < number_of clients.tagged → step < number_of clients.tagged → (client ≡ step → ⊥) → is_own (window_of clients client) i ≡ true → is_own (window_of clients step) i ≡ false
 apart clients client step i less more differ own = not_own clients step i more (λ (is : owner clients.tagged i ≡ step). differ (sym (own_is clients client i less own).0 ∙ is))
 
-pub shown_more : {B : Type 0} (rows : B → List Row) (told : B → ℕ) (by step : ℕ) (d later : Desk) (before mid after : List (Option B)) → IsLater d later → step < number_of d.clients.tagged → (step ≡ by → ⊥)
+pub shown_more : {B : Type 0} (rows : B → List Row) (told : B → Told) (by step : ℕ) (d later : Desk) (before mid after : List (Option B)) → IsLater d later → step < number_of d.clients.tagged → (step ≡ by → ⊥)
     → AreShownTo rows told (but_one by step) d later before mid → ShownOne rows told step d later mid after → AreShownTo rows told (but_one by (step + 1)) d later before after
 shown_more {B = B} rows told by step d later before mid after is_later room differ shown one = record {
   right = λ client i is own. elim (below_more by step client is) [
@@ -182,7 +182,7 @@ shown_more {B = B} rows told by step d later before mid after is_later room diff
         subst (λ (view : Option B). IsToldAtMost told (changes_of (seen_by d client) (seen_by later client) (slot_at d.slots i)) (in_slot before i) view) (sym (kept client i is own)) (shown.counted client i is own)
 
 -- The views of the next client are as they were.
-right_mid : {B : Type 0} (rows : B → List Row) (told : B → ℕ) (by step : ℕ) (d later : Desk) (before mid : List (Option B)) → step < number_of d.clients.tagged → AreShownTo rows told (but_one by step) d later before mid
+right_mid : {B : Type 0} (rows : B → List Row) (told : B → Told) (by step : ℕ) (d later : Desk) (before mid : List (Option B)) → step < number_of d.clients.tagged → AreShownTo rows told (but_one by step) d later before mid
     → AreRight rows (window_of d.clients step) (seen_by d step) before → AreRight rows (window_of d.clients step) (seen_by d step) mid
 right_mid {B = B} rows told by step d later before mid room shown right i own =
     subst (λ (view : Option B). IsRight rows (seen_by d step) (slot_at d.slots i) view) (sym kept) (right i own)
@@ -195,7 +195,7 @@ right_mid {B = B} rows told by step d later before mid room shown right i own =
     kept : in_slot mid i ≡ in_slot before i
     kept = shown.others i not-his
 
-pub shown_step : {B : Type 0} (rows : B → List Row) (told : B → ℕ) (by step count : ℕ) (d later : Desk) (before mid after : List (Option B)) → IsLater d later → step < number_of d.clients.tagged → step < count → AreRightTo rows (but_one by count) d before
+pub shown_step : {B : Type 0} (rows : B → List Row) (told : B → Told) (by step count : ℕ) (d later : Desk) (before mid after : List (Option B)) → IsLater d later → step < number_of d.clients.tagged → step < count → AreRightTo rows (but_one by count) d before
     → AreShownTo rows told (but_one by step) d later before mid → (step ≡ by → after ≡ mid) → ((step ≡ by → ⊥) → AreRight rows (window_of d.clients step) (seen_by d step) mid → ShownOne rows told step d later mid after)
     → AreShownTo rows told (but_one by (step + 1)) d later before after
 shown_step {B = B} rows told by step count d later before mid after is_later room few right shown passed one = by-test (step == by) refl
@@ -232,7 +232,7 @@ pub set_on_ok : {A E : Type 0} (r : Result A E) (seats : List SeatStruct) (clien
 set_on_ok (Ok x) seats client seat d less same = set_there seats client seat d less same
 set_on_ok (Err e) seats client seat d less same = tt
 
-pub one_on_ok : {A E B : Type 0} (r : Result A E) (rows : B → List Row) (told : B → ℕ) (step : ℕ) (d later : Desk) (mid after : List (Option B)) → OnOk r (AreRight rows (window_of d.clients step) (seen_by later step) after)
+pub one_on_ok : {A E B : Type 0} (r : Result A E) (rows : B → List Row) (told : B → Told) (step : ℕ) (d later : Desk) (mid after : List (Option B)) → OnOk r (AreRight rows (window_of d.clients step) (seen_by later step) after)
     → OnOk r (AreToldAtMost told (λ i. cond (is_own (window_of d.clients step) i) (changes_of (seen_by d step) (seen_by later step) (slot_at later.slots i)) 0) mid after) → AreLeft (is_own (window_of d.clients step)) mid after
     → AreLeft (λ i. is_own (window_of d.clients step) i && is_shown (slot_at later.slots i)) mid after → OnOk r (ShownOne rows told step d later mid after)
 one_on_ok (Ok x) rows told step d later mid after right counted others left = record { right = right; counted = counted; others = others; left = left }

@@ -28,6 +28,7 @@ use Rattle.desk_commands.specs.Standing.{DeskHolding, DeskSound, DeskStands, sea
 use Rattle.desk_commands.specs.Views.{AllRight}
 use Rattle.desk_commands.specs.declared.kinds.Kind.{Kind}
 use Rattle.desk_commands.specs.declared.kinds.Kind.TheVariants.{Moves}
+use Rattle.tree_live.specs.Views.{Told}
 
 -- ---- the seats around a place
 
@@ -141,7 +142,7 @@ pub his_broken : {A : Type 0} (r : Result A Halt) (clients : Clients) (d : Desk)
 his_broken (Ok x) clients d place t s same broken = tt
 his_broken (Err e) clients d place t s same broken = subst (λ (c : Clients). BrokenTask (window_of c place) (seen_by d place) t e) same (broken_any s (seen_by d place) (task_work (window_of clients place) t) e broken)
 
-pub his_views : {A E B : Type 0} (r : Result A E) (rows : B → List Row) (told : B → ℕ) (held : DeskHolding) (seen : Seen) (d : Desk) (kind : Kind) (place : ℕ) (seats after : List SeatStruct) (own stood : SeatStruct) (m : Holding) (left : List SeatStruct) (clients : Clients) (order : Order) (body : List ℕ) (before later : List (Option B))
+pub his_views : {A E B : Type 0} (r : Result A E) (rows : B → List Row) (told : B → Told) (held : DeskHolding) (seen : Seen) (d : Desk) (kind : Kind) (place : ℕ) (seats after : List SeatStruct) (own stood : SeatStruct) (m : Holding) (left : List SeatStruct) (clients : Clients) (order : Order) (body : List ℕ) (before later : List (Option B))
     → Sits held kind place seats after own stood m left → DeskStands held seen d → order_kind order ≡ kind → clients ≡ d.clients → OnOk r (ViewsDone rows told (window_of clients place) (Lent d kind place after own) (task order body) before later)
     → OnOk r (ViewsDone rows told (window_of d.clients place) (seen_by d place) (task order body) before later)
 his_views (Ok x) rows told held seen d kind place seats after own stood m left clients order body before later sits st is same done =

@@ -5,6 +5,7 @@ use Rattle.script_lines.specs.declared.line.Line.{Line}
 use Rattle.shell_commands.specs.Watching.{watches}
 use Rattle.shell_state.specs.Slots.{slot_at}
 use Rattle.tree_live.specs.Slots.{in_slot}
+use Rattle.tree_live.specs.Views.{Told}
 use Rattle.tree_rows.specs.declared.row.Row.{Row}
 use Rattle.view_commands.specs.Views.{AreToldAtMost, IsRight, changes_of, is_shown, slot_hits}
 use Rattle.desk_commands.specs.Desk.{Desk, desk_after, seen_by, window_of}
@@ -36,6 +37,6 @@ line_told desk t i =
     else changes_of (seen_by desk client) (seen_by (desk_after desk t) client) (slot_at desk.slots i)
 
 -- The views are right behind it, and were told no more.
-pub record LineShown {B : Type 0} (rows : B → List Row) (told : B → ℕ) (desk : Desk) (t : Tagged) (before after : List (Option B)) : Type 0 where
+pub record LineShown {B : Type 0} (rows : B → List Row) (told : B → Told) (desk : Desk) (t : Tagged) (before after : List (Option B)) : Type 0 where
   pub right : AllRight rows (desk_after desk t) after
   pub counted : AreToldAtMost told (line_told desk t) before after

@@ -20,6 +20,7 @@ use Rattle.shell_state.specs.Slots.Slot.{empty, idle, shows}
 use Rattle.shell_state.specs.State.{State}
 use Rattle.shell_state.specs.declared.halt.Halt.{Halt}
 use Rattle.tree_live.specs.Slots.{in_slot}
+use Rattle.tree_live.specs.Views.{Told}
 use Rattle.tree_rows.specs.declared.row.Row.{Row}
 use Rattle.view_commands.specs.Views.{AreLeft, AreRight, AreToldAtMost, IsRight, IsToldAtMost, changes_of, is_own, is_shown, showing, shown_hits, slot_hits, unwatch_work, watch_work}
 use Rattle.view_commands.specs.declared.window.Window.{Window}
@@ -46,17 +47,17 @@ or_false true b is = is
 
 -- ---- views that are told
 
-pub told_by : {B : Type 0} (told : B → ℕ) (least most : ℕ) (before after : Option B) → least ≤ most → IsToldAtMost told least before after → IsToldAtMost told most before after
+pub told_by : {B : Type 0} (told : B → Told) (least most : ℕ) (before after : Option B) → least ≤ most → IsToldAtMost told least before after → IsToldAtMost told most before after
 told_by told least most None after less is = is
 told_by told least most (Some before) None less is = tt
 told_by told least most (Some before) (Some after) less is = omega (arith, less, is)
 
-pub told_none : {B : Type 0} (told : B → ℕ) (most : ℕ) (view : Option B) → IsToldAtMost told most view view
+pub told_none : {B : Type 0} (told : B → Told) (most : ℕ) (view : Option B) → IsToldAtMost told most view view
 told_none told most None = refl
 told_none told most (Some view) = omega arith
 
 -- Views that were shown the rows of the state after the command.
-pub shown_done : {B : Type 0} (rows : B → List Row) (told : B → ℕ) (w : Window) (s : State) (command : Command) (text : List ℕ) (before after : List (Option B)) → (part_of command ≡ Slots → ⊥)
+pub shown_done : {B : Type 0} (rows : B → List Row) (told : B → Told) (w : Window) (s : State) (command : Command) (text : List ℕ) (before after : List (Option B)) → (part_of command ≡ Slots → ⊥)
     → AreRight rows w ((command_work w command text).after s) after
     → AreToldAtMost told (λ i. if is_own w i then changes_of s ((command_work w command text).after s) (slot_at ((command_work w command text).after s).slots i) else 0) before after
     → ViewsDone rows told w s (task (Ok command) text) before after
@@ -89,7 +90,7 @@ shown_slot s slot i packed is some =
     (λ past. absurd (some (sym is ∙ get_or_past s.slots i empty past)))
     (cases_lt i (length s.slots))
 
-told_slot : {B : Type 0} (rows : B → List Row) (told : B → ℕ) (s : State) (i : ℕ) (packed : Packed) (slot : Slot) (before after : Option B) → slot_at s.slots i ≡ slot → IsRight rows s slot before
+told_slot : {B : Type 0} (rows : B → List Row) (told : B → Told) (s : State) (i : ℕ) (packed : Packed) (slot : Slot) (before after : Option B) → slot_at s.slots i ≡ slot → IsRight rows s slot before
     → IsToldAtMost told (1 + length (shown_hits s packed)) before after
     → IsToldAtMost told (1 + length (slot_hits (slotted s i (showing packed slot)) (slot_at (slice_set s.slots i (showing packed slot)) i))) before after
 told_slot rows told s i packed empty None after is right most = most
@@ -132,7 +133,7 @@ watched_state w s number i board side is =
     by true is = refl
     by false is = absurd (cc)
 
-told_own : {B : Type 0} (rows : B → List Row) (told : B → ℕ) (w : Window) (s : State) (number : ℕ) (board : Men) (side : Colour) (i : ℕ) (here : Bool) (before after : Option B)
+told_own : {B : Type 0} (rows : B → List Row) (told : B → Told) (w : Window) (s : State) (number : ℕ) (board : Men) (side : Colour) (i : ℕ) (here : Bool) (before after : Option B)
     → (nat_lt number w.count && (w.first + number == i)) ≡ here → IsRight rows s (slot_at s.slots i) before
     → IsToldAtMost told (if here then 1 + length (shown_hits s (packed_of board side)) else 0) before after
     → IsToldAtMost told (if here then 1 + length (slot_hits ((watch_work w number board side).after s) (slot_at ((watch_work w number board side).after s).slots i)) else changes_of s ((watch_work w number board side).after s) (slot_at s.slots i)) before after
@@ -141,7 +142,7 @@ told_own rows told w s number board side i true before after is right most =
     subst P (sym (watched_state w s number i board side is)) (told_slot rows told s i (packed_of board side) (slot_at s.slots i) before after refl right most)
 told_own rows told w s number board side i false before after is right most = told_by told 0 _ before after (omega arith) most
 
-pub watch_done : {B : Type 0} (rows : B → List Row) (told : B → ℕ) (w : Window) (s : State) (number : ℕ) (board : Men) (side : Colour) (text : List ℕ) (before after : List (Option B)) → AreRight rows w s before
+pub watch_done : {B : Type 0} (rows : B → List Row) (told : B → Told) (w : Window) (s : State) (number : ℕ) (board : Men) (side : Colour) (text : List ℕ) (before after : List (Option B)) → AreRight rows w s before
     → AreRight rows w ((watch_work w number board side).after s) after
     → AreToldAtMost told (λ i. if nat_lt number w.count && (w.first + number == i) then 1 + length (shown_hits s (packed_of board side)) else 0) before after
     → ViewsDone rows told w s (task (Ok (Watch number board side)) text) before after
@@ -160,12 +161,12 @@ watch_done rows told w s number board side text before after right right' counte
         let P : Bool → Type 0 = λ b. IsToldAtMost told (if b then 1 + length (shown_hits s (packed_of board side)) else 0) (in_slot before i) (in_slot after i) in
         subst P (not_named w number i other) (counted i)
 
-unwatch_done : {B : Type 0} (rows : B → List Row) (told : B → ℕ) (w : Window) (s : State) (number : ℕ) (text : List ℕ) (before after : List (Option B))
+unwatch_done : {B : Type 0} (rows : B → List Row) (told : B → Told) (w : Window) (s : State) (number : ℕ) (text : List ℕ) (before after : List (Option B))
     → AreRight rows w ((unwatch_work w number).after s) after → AreToldAtMost told (λ i. 0) before after → ViewsDone rows told w s (task (Ok (Unwatch number)) text) before after
 unwatch_done rows told w s number text before after right counted =
     record { right = right; counted = λ i. told_by told 0 _ (in_slot before i) (in_slot after i) (omega arith) (counted i) }
 
-pub unwatched : {A E B : Type 0} (r : Result A E) (rows : B → List Row) (told : B → ℕ) (w : Window) (s : State) (number : ℕ) (text : List ℕ) (before after : List (Option B)) → OnOk r (AreRight rows w ((unwatch_work w number).after s) after)
+pub unwatched : {A E B : Type 0} (r : Result A E) (rows : B → List Row) (told : B → Told) (w : Window) (s : State) (number : ℕ) (text : List ℕ) (before after : List (Option B)) → OnOk r (AreRight rows w ((unwatch_work w number).after s) after)
     → OnOk r (AreToldAtMost told (λ i. 0) before after) → OnOk r (ViewsDone rows told w s (task (Ok (Unwatch number)) text) before after)
 unwatched r rows told w s number text before after right counted = on_ok₂ r _ _ _ (λ is most. unwatch_done rows told w s number text before after is most) right counted
 
@@ -203,7 +204,7 @@ searches_read w (SearchMaterial op query) text is = refl
 searches_read w _ text is = absurd cc
 
 -- Where the command ended well.
-pub views_shown : {A B : Type 0} (r : Result A Halt) (rows : B → List Row) (told : B → ℕ) (w : Window) (s : State) (command : Command) (text : List ℕ) (before after : List (Option B)) → (part_of command ≡ Slots → ⊥)
+pub views_shown : {A B : Type 0} (r : Result A Halt) (rows : B → List Row) (told : B → Told) (w : Window) (s : State) (command : Command) (text : List ℕ) (before after : List (Option B)) → (part_of command ≡ Slots → ⊥)
     → OnOk r (AreRight rows w ((command_work w command text).after s) after)
     → OnOk r (AreToldAtMost told (λ i. if is_own w i then changes_of s ((command_work w command text).after s) (slot_at ((command_work w command text).after s).slots i) else 0) before after)
     → OnOk r (ViewsDone rows told w s (task (Ok command) text) before after)
@@ -211,5 +212,5 @@ views_shown r rows told w s command text before after other right counted =
     on_ok₂ r _ _ _ (λ is most. shown_done rows told w s command text before after other is most) right counted
 
 -- A faulty line changes nothing.
-pub fault_done : {B : Type 0} (rows : B → List Row) (told : B → ℕ) (w : Window) (s : State) (fault : ScriptFault) (text : List ℕ) (views : List (Option B)) → AreRight rows w s views → ViewsDone rows told w s (task (Err fault) text) views views
+pub fault_done : {B : Type 0} (rows : B → List Row) (told : B → Told) (w : Window) (s : State) (fault : ScriptFault) (text : List ℕ) (views : List (Option B)) → AreRight rows w s views → ViewsDone rows told w s (task (Err fault) text) views views
 fault_done rows told w s fault text views right = record { right = right; counted = λ i. told_none told _ (in_slot views i) }

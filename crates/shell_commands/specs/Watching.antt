@@ -8,6 +8,7 @@ use Rattle.shell_state.specs.State.{State}
 use Rattle.tree_rows.specs.declared.row.Row.{Row}
 use Rattle.view_commands.specs.Views.{AreRight, AreToldAtMost, changes_of, is_own, is_shown, slot_hits}
 use Rattle.view_commands.specs.declared.window.Window.{Window}
+use Rattle.tree_live.specs.Views.{Told}
 
 -- Whether a line of a user watches a slot, which is one of the user's own.
 abbrev pub watches : Window → Order → ℕ → Bool
@@ -29,6 +30,6 @@ most_told w s t i =
     else 0
 
 -- The user's views are right behind it, and were told no more.
-pub record ViewsDone {B : Type 0} (rows : B → List Row) (told : B → ℕ) (w : Window) (s : State) (t : Task) (before after : List (Option B)) : Type 0 where
+pub record ViewsDone {B : Type 0} (rows : B → List Row) (told : B → Told) (w : Window) (s : State) (t : Task) (before after : List (Option B)) : Type 0 where
   pub right : AreRight rows w ((tasks w).after s t) after
   pub counted : AreToldAtMost told (most_told w s t) before after

@@ -18,6 +18,7 @@ use Rattle.shell_state.specs.Stands.{ShowNone}
 use Rattle.shell_state.specs.State.{State}
 use Rattle.shell_state.specs.declared.halt.Halt.{Halt}
 use Rattle.tree_live.specs.Slots.{in_slot}
+use Rattle.tree_live.specs.Views.{Told}
 use Rattle.tree_rows.specs.declared.row.Row.{Row}
 use Rattle.view_commands.specs.Views.{AreLeft, IsRight, IsToldAtMost, is_shown}
 use Rattle.shell_session.proofs.DeskLaws.{its_line}
@@ -26,20 +27,20 @@ use Rattle.shell_session.specs.Around.{AreLeftBy, Around, IsLeftIn, Lives, Meani
 
 -- ---- views and what they mean
 
-abbrev meaning : {B : Type 0} → (B → List Row) → (B → ℕ) → B → Meaning
+abbrev meaning : {B : Type 0} → (B → List Row) → (B → Told) → B → Meaning
 meaning rows told view = record { rows = rows view; told = told view }
 
-pub in_meanings : {B : Type 0} (rows : B → List Row) (told : B → ℕ) (views : List (Option B)) (k : ℕ) → in_slot (meanings rows told views) k ≡ option_map (meaning rows told) (in_slot views k)
+pub in_meanings : {B : Type 0} (rows : B → List Row) (told : B → Told) (views : List (Option B)) (k : ℕ) → in_slot (meanings rows told views) k ≡ option_map (meaning rows told) (in_slot views k)
 in_meanings rows told views k = in_mapped (meaning rows told) views k
 
-is_right : {B : Type 0} (rows : B → List Row) (told : B → ℕ) (s : State) (slot : Slot) (view : Option B) → IsRight rows s slot view → IsRight (λ (m : Meaning). m.rows) s slot (option_map (meaning rows told) view)
+is_right : {B : Type 0} (rows : B → List Row) (told : B → Told) (s : State) (slot : Slot) (view : Option B) → IsRight rows s slot view → IsRight (λ (m : Meaning). m.rows) s slot (option_map (meaning rows told) view)
 is_right rows told s empty view is = ap (option_map (meaning rows told)) is
 is_right rows told s idle None is = cc
 is_right rows told s idle (Some view) is = refl
 is_right rows told s (shows board) None is = is
 is_right rows told s (shows board) (Some view) is = is
 
-was_right : {B : Type 0} (rows : B → List Row) (told : B → ℕ) (s : State) (slot : Slot) (view : Option B) → IsRight (λ (m : Meaning). m.rows) s slot (option_map (meaning rows told) view) → IsRight rows s slot view
+was_right : {B : Type 0} (rows : B → List Row) (told : B → Told) (s : State) (slot : Slot) (view : Option B) → IsRight (λ (m : Meaning). m.rows) s slot (option_map (meaning rows told) view) → IsRight rows s slot view
 was_right rows told s empty None is = refl
 was_right rows told s empty (Some view) is = cc
 was_right rows told s idle None is = cc
@@ -51,11 +52,11 @@ was_right rows told s (shows board) (Some view) is = is
 abbrev owner_sees : Desk → ℕ → State
 owner_sees d k = seen_by d (owner d.clients.tagged k)
 
-pub right_in : {B : Type 0} (rows : B → List Row) (told : B → ℕ) (d : Desk) (views : List (Option B)) → AllRight rows d views → AllRight (λ (m : Meaning). m.rows) d (meanings rows told views)
+pub right_in : {B : Type 0} (rows : B → List Row) (told : B → Told) (d : Desk) (views : List (Option B)) → AllRight rows d views → AllRight (λ (m : Meaning). m.rows) d (meanings rows told views)
 right_in rows told d views are k =
     subst (IsRight (λ (m : Meaning). m.rows) (owner_sees d k) (slot_at d.slots k)) (sym (in_meanings rows told views k)) (is_right rows told (owner_sees d k) (slot_at d.slots k) (in_slot views k) (are k))
 
-pub right_out : {B : Type 0} (rows : B → List Row) (told : B → ℕ) (d : Desk) (views : List (Option B)) → AllRight (λ (m : Meaning). m.rows) d (meanings rows told views) → AllRight rows d views
+pub right_out : {B : Type 0} (rows : B → List Row) (told : B → Told) (d : Desk) (views : List (Option B)) → AllRight (λ (m : Meaning). m.rows) d (meanings rows told views) → AllRight rows d views
 right_out rows told d views are k =
     was_right rows told (owner_sees d k) (slot_at d.slots k) (in_slot views k) (subst (IsRight (λ (m : Meaning). m.rows) (owner_sees d k) (slot_at d.slots k)) (in_meanings rows told views k) (are k))
 
@@ -73,7 +74,7 @@ left_alone held around d lives k =
     left_in (owner_sees d k) (slot_at d.slots k) (in_slot around.first k) (in_slot around.now k) (in_slot around.now k) (lives.views.right k) (lives.views.idle k) (λ hidden. refl)
 
 -- And those that it does not watch.
-pub left_by : {B : Type 0} (rows : B → List Row) (told : B → ℕ) (d : Desk) (t : Tagged) (held : DeskHolding) (seen seen' : Seen) (first : Views) (most : ℕ → ℕ) (views views' : List (Option B))
+pub left_by : {B : Type 0} (rows : B → List Row) (told : B → Told) (d : Desk) (t : Tagged) (held : DeskHolding) (seen seen' : Seen) (first : Views) (most : ℕ → ℕ) (views views' : List (Option B))
     → Lives held (around seen first most (meanings rows told views)) d → AreLeft (line_touches d (its_line t)) views views' → AreLeftBy (around seen' first most (meanings rows told views')) d (its_line t)
 left_by rows told d t held seen seen' first most views views' lives left k other =
     left_in (owner_sees d k) (slot_at d.slots k) (in_slot first k) (in_slot (meanings rows told views) k) (in_slot (meanings rows told views') k) (lives.views.right k) (lives.views.idle k)
@@ -81,7 +82,7 @@ left_by rows told d t held seen seen' first most views views' lives left k other
     let untouched : line_touches d (its_line t) k ≡ false = rw (hidden, other) refl in
     in_meanings rows told views' k ∙ (ap (option_map (meaning rows told)) (left k untouched) ∙ sym (in_meanings rows told views k)))
 
-told_step : {B : Type 0} (rows : B → List Row) (told : B → ℕ) (most : ℕ) (before after : Option B) → IsToldAtMost told most before after
+told_step : {B : Type 0} (rows : B → List Row) (told : B → Told) (most : ℕ) (before after : Option B) → IsToldAtMost told most before after
     → told_by (option_map (meaning rows told) after) ≤ told_by (option_map (meaning rows told) before) + most
 told_step rows told most None after is =
     let none : told_by (option_map (meaning rows told) after) ≡ 0 = ap (λ view. told_by (option_map (meaning rows told) view)) is in
@@ -89,7 +90,7 @@ told_step rows told most None after is =
 told_step rows told most (Some before) None is = omega arith
 told_step rows told most (Some before) (Some after) is = is
 
-pub lives_behind : {B : Type 0} (rows : B → List Row) (told : B → ℕ) (d : Desk) (t : Tagged) (held held' : DeskHolding) (seen seen' : Seen) (first : Views) (most : ℕ → ℕ) (views views' : List (Option B)) (text : List ℕ) (before after : Option (List ℕ))
+pub lives_behind : {B : Type 0} (rows : B → List Row) (told : B → Told) (d : Desk) (t : Tagged) (held held' : DeskHolding) (seen seen' : Seen) (first : Views) (most : ℕ → ℕ) (views views' : List (Option B)) (text : List ℕ) (before after : Option (List ℕ))
     → Lives held (around seen first most (meanings rows told views)) d → Done (DeskStands held' seen') (desks.after d t) text before after → LineShown rows told d t views views' → AreLeft (line_touches d (its_line t)) views views'
     → Done (Lives held' (told_more (around seen' first most (meanings rows told views')) (line_told d t))) (desks.after d t) text before after
 lives_behind rows told d t held held' seen seen' first most views views' text before after lives did done left = record {
@@ -109,7 +110,7 @@ lives_behind rows told d t held held' seen seen' first most views views' text be
   written = did.written;
 }
 
-pub serves_alive : {A B : Type 0} (rows : B → List Row) (told : B → ℕ) (d : Desk) (t : Tagged) (held held' : DeskHolding) (seen seen' : Seen) (first : Views) (most : ℕ → ℕ) (views views' : List (Option B)) (before after : Option (List ℕ)) (result : Result A Halt)
+pub serves_alive : {A B : Type 0} (rows : B → List Row) (told : B → Told) (d : Desk) (t : Tagged) (held held' : DeskHolding) (seen seen' : Seen) (first : Views) (most : ℕ → ℕ) (views views' : List (Option B)) (before after : Option (List ℕ)) (result : Result A Halt)
     → Lives held (around seen first most (meanings rows told views)) d → Serves desks (DeskStands held' seen') BrokenLine d t before after result → OnOk result (LineShown rows told d t views views')
     → AreLeft (line_touches d (its_line t)) views views' → Serves desks (Lives held' (told_more (around seen' first most (meanings rows told views')) (line_told d t))) BrokenLine d t before after result
 serves_alive rows told d t held held' seen seen' first most views views' before after (Ok x) lives serves done left =
@@ -197,5 +198,5 @@ lives_first held seen views desk created base few stands =
       };
     }
 
-pub meanings_few : {B : Type 0} (rows : B → List Row) (told : B → ℕ) (views : List (Option B)) → length views ≤ 8 → length (meanings rows told views) ≤ 8
+pub meanings_few : {B : Type 0} (rows : B → List Row) (told : B → Told) (views : List (Option B)) → length views ≤ 8 → length (meanings rows told views) ≤ 8
 meanings_few rows told views few = omega (arith, few, length-map views (option_map (meaning rows told)))

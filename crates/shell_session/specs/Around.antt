@@ -12,6 +12,7 @@ use Rattle.script_lines.specs.declared.line.Line.{Line}
 use Rattle.shell_state.specs.Slots.{Slot, slot_at}
 use Rattle.shell_state.specs.Slots.Slot.{empty, idle, shows}
 use Rattle.tree_live.specs.Slots.{in_slot}
+use Rattle.tree_live.specs.Views.{Told}
 use Rattle.tree_rows.specs.declared.row.Row.{Row}
 
 -- What a view means: its rows, and how many changes it was told.
@@ -22,7 +23,7 @@ pub record Meaning : Type 0 where
 abbrev pub Views : Type 0
 Views = List (Option Meaning)
 
-abbrev pub meanings : {B : Type 0} → (B → List Row) → (B → ℕ) → List (Option B) → Views
+abbrev pub meanings : {B : Type 0} → (B → List Row) → (B → Told) → List (Option B) → Views
 meanings rows told views = map (option_map (λ view. record { rows = rows view; told = told view })) views
 
 -- The slots over some views: one is idle if a view stands, and empty else.

@@ -5,6 +5,7 @@ use Rattle.std.specs.Prelude.{if◌then◌else◌}
 use Rattle.tree_rows.specs.declared.row.Row.{Row}
 use Rattle.tree_live.specs.Watching.{Watched}
 use Rattle.tree_live.specs.Slots.{AreChanged, AreHeld, AreShown, AreToldRows, IsShown, IsToldRows, Slotted, in_slot, rows_in}
+use Rattle.tree_live.specs.Views.{Told}
 
 -- where each slot shows its rows
 pub held-shown : {B : Type 0} (rows : B → List Row) (slots : Slotted) (views : List (Option B)) → AreShown rows slots views → AreHeld slots views
@@ -29,7 +30,7 @@ held-changed change before after views first changed held k =
     by (Some watch) h = h
 
 -- after the views of some slots were told, whether or not that went well
-pub held-told : {B : Type 0} (rows : B → List Row) (told : B → ℕ) (among : ℕ → Bool) (change : Watched → Watched) (slots : Slotted) (before after : List (Option B))
+pub held-told : {B : Type 0} (rows : B → List Row) (told : B → Told) (among : ℕ → Bool) (change : Watched → Watched) (slots : Slotted) (before after : List (Option B))
     → AreHeld slots before → AreToldRows rows told among change slots before after → AreHeld slots after
 held-told rows told among change slots before after held all k =
     by (among k) (in_slot slots.watches k) (in_slot before (slots.first + k)) (in_slot after (slots.first + k)) (held k) (all.views k)

@@ -1,4 +1,5 @@
 mod ViewLaws
+pub mod TellingLaws
 mod HitLaws
 mod GameLaws
 mod ChangeLaws

@@ -14,16 +14,18 @@ use Rattle.tree_live.specs.Watching.{Watched, hits_in, under, with_game}
 use Rattle.tree_live.specs.Slots.{AreBelow, AreShown, AreTold, EachWatch, Fits, IsShown, IsShownIf, IsTold, IsToldRows, Slotted, changed, in_slot, most_told, rows_in}
 use Rattle.tree_live.specs.Following.{Followed}
 use Rattle.tree_live.specs.Showing.{ShownBelow, ToldEach}
+use Rattle.tree_live.specs.Views.{Told}
+use Rattle.tree_live.proofs.TellingLaws.{told-nothing-more}
 use Rattle.tree_live.proofs.ChangeLaws.{few-under, few-with, few-renumbered}
 
 -- a slot to which nothing was brought
-told-nothing : {B : Type 0} (rows : B → List Row) (told : B → ℕ) (few : Watched → ℕ) (watch : Option Watched) (slot : Option B) → IsShown rows watch slot
+told-nothing : {B : Type 0} (rows : B → List Row) (told : B → Told) (few : Watched → ℕ) (watch : Option Watched) (slot : Option B) → IsShown rows watch slot
     → IsTold told (option_map few watch) slot slot
 told-nothing rows told few None slot h = refl
 told-nothing rows told few (Some watch) None h = absurd h
-told-nothing rows told few (Some watch) (Some view) h = omega arith
+told-nothing rows told few (Some watch) (Some view) h = told-nothing-more (few watch) (told view)
 
-pub untold : {B : Type 0} (rows : B → List Row) (told : B → ℕ) (change : Change) (slots : Slotted) (views : List (Option B)) → AreShown rows slots views
+pub untold : {B : Type 0} (rows : B → List Row) (told : B → Told) (change : Change) (slots : Slotted) (views : List (Option B)) → AreShown rows slots views
     → AreTold told slots (most_told change) views views
 untold rows told change slots views shown = record {
   views = λ k. told-nothing rows told (most_told change k) (in_slot slots.watches k) (in_slot views (slots.first + k)) (shown k);
@@ -51,15 +53,16 @@ all-followed change k watches after all followed j = by (nat_lt j k) refl
         let none : in_slot watches j ≡ None = get_or_past watches j None (omega (arith, all, ltb-false j k e)) in
         followed.left j (ltb-false j k e) ∙ none ∙ ap (option_map (changed change j)) (sym none)
 
-slot-told : {B : Type 0} (rows : B → List Row) (told : B → ℕ) (change : Change) (k : ℕ) (watch : Option Watched) (before after : Option B)
+slot-told : {B : Type 0} (rows : B → List Row) (told : B → Told) (change : Change) (k : ℕ) (watch : Option Watched) (before after : Option B)
     → IfSome watch (Fits change) → IsShown rows watch before → IsToldRows rows told (option_map rows_in (option_map (changed change k) watch)) before after
     → IsTold told (option_map (most_told change k) watch) before after
 slot-told rows told change k None before after fits shown h = h
 slot-told rows told change k (Some watch) None after fits shown h = absurd shown
 slot-told rows told change k (Some watch) (Some old) None fits shown h = absurd h
-slot-told rows told change k (Some watch) (Some old) (Some new) fits shown h = omega (arith, h (hits_in watch.games) shown, few-told change k watch fits)
+slot-told rows told change k (Some watch) (Some old) (Some new) fits shown h = 
+    record { same = h.0; few = omega (arith, h.1 (hits_in watch.games) shown, few-told change k watch fits) }
 
-pub brought-told : {B : Type 0} (rows : B → List Row) (told : B → ℕ) (change : Change) (inside slots : Slotted) (k first : ℕ) (after : List (Option Watched))
+pub brought-told : {B : Type 0} (rows : B → List Row) (told : B → Told) (change : Change) (inside slots : Slotted) (k first : ℕ) (after : List (Option Watched))
     (views views_after : List (Option B)) → inside ≡ slots → EachWatch (Fits change) slots → AreShown rows slots views → length inside.watches ≤ k
     → first ≡ inside.first → Followed change k inside.watches after → ToldEach rows told first after views views_after
     → AreTold told slots (most_told change) views views_after
@@ -77,7 +80,7 @@ brought-told {B} rows told change inside slots k first after views views_after s
       number = tells.number;
     })
 
-slot-shown : {B : Type 0} (rows : B → List Row) (told : B → ℕ) (change : Change) (k : ℕ) (watch : Option Watched) (before after : Option B)
+slot-shown : {B : Type 0} (rows : B → List Row) (told : B → Told) (change : Change) (k : ℕ) (watch : Option Watched) (before after : Option B)
     → IsShown rows watch before → IsToldRows rows told (option_map rows_in (option_map (changed change k) watch)) before after
     → IsShownIf rows (option_map (changed change k) watch) after → IsShown rows (option_map (changed change k) watch) after
 slot-shown rows told change k None before after was tells shown = shown
@@ -85,7 +88,7 @@ slot-shown rows told change k (Some watch) None after was tells shown = absurd w
 slot-shown rows told change k (Some watch) (Some old) None was tells shown = absurd tells
 slot-shown rows told change k (Some watch) (Some old) (Some new) was tells shown = shown
 
-pub brought-shown : {B : Type 0} (rows : B → List Row) (told : B → ℕ) (change : Change) (inside slots : Slotted) (k first : ℕ) (after : List (Option Watched))
+pub brought-shown : {B : Type 0} (rows : B → List Row) (told : B → Told) (change : Change) (inside slots : Slotted) (k first : ℕ) (after : List (Option Watched))
     (views views_after : List (Option B)) → inside ≡ slots → AreShown rows slots views → length inside.watches ≤ k → first ≡ inside.first
     → Followed change k inside.watches after → ShownBelow rows told first (length after) after views views_after
     → AreShown rows (record inside { watches = after }) views_after

@@ -7,6 +7,7 @@ use Rattle.tree_rows.specs.declared.row.Row.{Row}
 use Rattle.tree_live.specs.Watching.{Watched}
 use Rattle.tree_live.specs.Slots.{AreShownIf, AreToldRows, IsShownIf, IsToldRows, Slotted, in_slot, is_within, rows_in}
 use Rattle.tree_live.specs.Showing.{ShownBelow, ToldEach}
+use Rattle.tree_live.specs.Views.{Told}
 
 -- ---- a slot among them, or not
 
@@ -44,7 +45,7 @@ in_place front part rest start k is behind below =
 
 -- ---- what is told
 
-pub shown_within : {B : Type 0} (rows : B → List Row) (told : B → ℕ) (start count first : ℕ) (front part rest : List (Option Watched)) (views views' : List (Option B)) (slots : Slotted)
+pub shown_within : {B : Type 0} (rows : B → List Row) (told : B → Told) (start count first : ℕ) (front part rest : List (Option Watched)) (views views' : List (Option B)) (slots : Slotted)
     → first ≡ slots.first + start → slots.watches ≡ front ++ (part ++ rest) → length front ≡ start → length part ≡ count
     → ShownBelow rows told first (length part) part views views' → AreShownIf rows (is_within start count) slots views'
 shown_within rows told start count first front part rest views views' slots at are front_is part_is shown k within =
@@ -59,7 +60,7 @@ changed_rows : (change : Watched → Watched) (watch : Option Watched) → optio
 changed_rows change None = refl
 changed_rows change (Some watch) = refl
 
-told_within : {B : Type 0} (rows : B → List Row) (told : B → ℕ) (start count first a n : ℕ) (all part : List (Option Watched)) (views views' : List (Option B)) (slots : Slotted) (change : Watched → Watched)
+told_within : {B : Type 0} (rows : B → List Row) (told : B → Told) (start count first a n : ℕ) (all part : List (Option Watched)) (views views' : List (Option B)) (slots : Slotted) (change : Watched → Watched)
     → first ≡ slots.first + start → all ≡ slots.watches → a ≡ start → n ≡ count → length part ≡ count
     → ((j : ℕ) → j < count → in_slot part j ≡ option_map change (in_slot (take n (drop a all)) j))
     → ToldEach rows told first part views views' → AreToldRows rows told (is_within start count) change slots views views'
@@ -94,7 +95,7 @@ told_within {B} rows told start count first a n all part views views' slots chan
     by k false not = outside k (nat_lt k start) refl not
 
 -- The same of slots that are these.
-pub told_of : {B : Type 0} (rows : B → List Row) (told : B → ℕ) (start count first a n : ℕ) (all part : List (Option Watched)) (views views' : List (Option B)) (slots slots' : Slotted) (change : Watched → Watched)
+pub told_of : {B : Type 0} (rows : B → List Row) (told : B → Told) (start count first a n : ℕ) (all part : List (Option Watched)) (views views' : List (Option B)) (slots slots' : Slotted) (change : Watched → Watched)
     → slots ≡ slots' → first ≡ slots.first + start → all ≡ slots.watches → a ≡ start → n ≡ count → length part ≡ count
     → ((j : ℕ) → j < count → in_slot part j ≡ option_map change (in_slot (take n (drop a all)) j))
     → ToldEach rows told first part views views' → AreToldRows rows told (is_within start count) change slots' views views'

@@ -6,7 +6,7 @@ use Rattle.tree_rows.specs.declared.row.Row.{Row}
 use Rattle.tree_rows.specs.Rows.{rows_of}
 use Rattle.tree_live.specs.declared.change.Change.{Change}
 use Rattle.tree_live.specs.declared.change.Change.TheVariants.{Filter, Game, Numbers}
-use Rattle.tree_live.specs.Views.{Shows}
+use Rattle.tree_live.specs.Views.{Shows, Told, ToldMore}
 use Rattle.tree_live.specs.RowChanges.{rows_changed}
 use Rattle.tree_live.specs.Watching.{Watched, hits_in, all_changes, staying, under, with_game}
 
@@ -61,29 +61,30 @@ abbrev pub rows_in : Watched → List Row
 rows_in watch = rows_of (hits_in watch.games)
 
 -- A slot that may be told so many changes holds its view, which was told no more; one that is told nothing is as before.
-abbrev pub IsTold : {B : Type 0} → (B → ℕ) → Option ℕ → Option B → Option B → Type 0
+abbrev pub IsTold : {B : Type 0} → (B → Told) → Option ℕ → Option B → Option B → Type 0
 IsTold told None before after = after ≡ before
 IsTold told (Some most) None after = ⊥
 IsTold told (Some most) (Some before) None = ⊥
-IsTold told (Some most) (Some before) (Some after) = told after ≤ told before + most
+IsTold told (Some most) (Some before) (Some after) = ToldMore most (told before) (told after)
 
 -- So is each slot, and every other view is as before.
-pub record AreTold {B : Type 0} (told : B → ℕ) (slots : Slotted) (most : ℕ → Watched → ℕ) (before after : List (Option B)) : Type 0 where
+pub record AreTold {B : Type 0} (told : B → Told) (slots : Slotted) (most : ℕ → Watched → ℕ) (before after : List (Option B)) : Type 0 where
   pub views : (k : ℕ) → IsTold told (option_map (most k) (in_slot slots.watches k)) (in_slot before (slots.first + k)) (in_slot after (slots.first + k))
   pub others : (i : ℕ) → i < slots.first → in_slot after i ≡ in_slot before i
   pub number : length after ≡ length before
 
 -- A slot that is to show these rows holds its view, if it held one. The view was told no more changes than rows differ
 -- from those of the hits that it showed. A slot that is to show nothing is as before.
-abbrev pub IsToldRows : {B : Type 0} → (B → List Row) → (B → ℕ) → Option (List Row) → Option B → Option B → Type 0
+abbrev pub IsToldRows : {B : Type 0} → (B → List Row) → (B → Told) → Option (List Row) → Option B → Option B → Type 0
 IsToldRows rows told None before after = after ≡ before
 IsToldRows rows told (Some later) None after = after ≡ None
 IsToldRows rows told (Some later) (Some before) None = ⊥
 IsToldRows rows told (Some later) (Some before) (Some after) =
-    (hits : List GameHit) → Shows hits (rows before) → told after ≤ told before + rows_changed (rows_of hits) later
+    ((told after).who ≡ (told before).who)
+    × ((hits : List GameHit) → Shows hits (rows before) → (told after).changes ≤ (told before).changes + rows_changed (rows_of hits) later)
 
 -- So is each of some slots, where its watch becomes another, and every other view is as before.
-pub record AreToldRows {B : Type 0} (rows : B → List Row) (told : B → ℕ) (among : ℕ → Bool) (change : Watched → Watched) (slots : Slotted) (before after : List (Option B)) : Type 0 where
+pub record AreToldRows {B : Type 0} (rows : B → List Row) (told : B → Told) (among : ℕ → Bool) (change : Watched → Watched) (slots : Slotted) (before after : List (Option B)) : Type 0 where
   pub views : (k : ℕ) → IsToldRows rows told (if among k then option_map (λ watch. rows_in (change watch)) (in_slot slots.watches k) else None) (in_slot before (slots.first + k)) (in_slot after (slots.first + k))
   pub others : (i : ℕ) → i < slots.first → in_slot after i ≡ in_slot before i
   pub number : length after ≡ length before

@@ -1,7 +1,7 @@
 //! A view in memory.
 ghost use Rattle.std.specs.Prelude.{◌≡◌, ◌+◌, ◌<◌, ◌≤◌, [], Some, None, length, slice_get, IsErr, OnOk, OnErr};
 ghost use Rattle.tree_rows.specs.Rows.{KeysDiffer};
-ghost use Rattle.tree_live.specs.Views.{Sets, Table, more};
+ghost use Rattle.tree_live.specs.Views.{Sets, Table, ToldMore, more, told_of};
 
 use crate::place::{set_row, take_row};
 use crate::view::TreeView;
@@ -51,11 +51,11 @@ impl TableView {
 impl TreeView for TableView {
     ghost rows = { λ v. v.rows };
 
-    ghost told = { λ v. v.told };
+    ghost told = { λ v. told_of v };
 
     fn clear(&mut self)
         ensures none { self.new.rows ≡ [] }
-        ensures counts { self.new.told ≤ self.old.told + 1 }
+        ensures counts { ToldMore 1 (told_of self.old) (told_of self.new) }
 
         // More than every view promises: the count of changes, exactly.
         ensures exact { self.new ≡ record self.old { rows = []; told = more self.old.told } }
@@ -67,8 +67,8 @@ impl TreeView for TableView {
     fn put(&mut self, row: Row) -> Result<(), AllocError>
         ensures set { OnOk result (Sets row.key (Some row) self.old.rows self.new.rows) }
         ensures unchanged { OnErr result (self.new.rows ≡ self.old.rows) }
-        ensures untold { OnErr result (self.new.told ≡ self.old.told) }
-        ensures counts { self.new.told ≤ self.old.told + 1 }
+        ensures untold { OnErr result (told_of self.new ≡ told_of self.old) }
+        ensures counts { ToldMore 1 (told_of self.old) (told_of self.new) }
 
         // More than every view promises: which put is refused, and the counts.
         ensures refused { self.old.refuse ≡ Some self.old.puts → IsErr result }
@@ -88,7 +88,7 @@ impl TreeView for TableView {
 
     fn take(&mut self, key: Option<Move>)
         ensures out { Sets key None self.old.rows self.new.rows }
-        ensures counts { self.new.told ≤ self.old.told + 1 }
+        ensures counts { ToldMore 1 (told_of self.old) (told_of self.new) }
 
         // More than every view promises: the count of changes, exactly.
         ensures told { self.new.told ≡ more self.old.told }

@@ -40,7 +40,7 @@ impl Watch {
     ghost use Rattle.game_filter.specs.Renumbering.{renumbered};
     ghost use Rattle.tree_rows.specs.declared.hit.GameHit.{GameHit as HitValue};
     ghost use Rattle.tree_rows.specs.Rows.{rows_of};
-    ghost use Rattle.tree_live.specs.Views.{Shows};
+    ghost use Rattle.tree_live.specs.Views.{Shows, ToldMore};
     ghost use Rattle.tree_live.specs.RowChanges.{rows_changed};
     ghost use Rattle.tree_live.specs.Watching.{all_changes, all_out, counted, hits_in, staying, under, with_game};
     ghost use Rattle.tree_live.specs.Keeping.{entry_at, marked, no_game, reaching};
@@ -58,7 +58,7 @@ impl Watch {
         requires few { length hits.now ≤ 16777214 }
         ensures watched { IfOk result (λ watch. watch ≡ record { board = board; games = under filter.now (all_out hits.now) }) }
         ensures shown { IfOk result (λ watch. Shows (hits_in watch.games) (rows view.new)) }
-        ensures told { told view.new ≤ told view.old + 1 + length (hits_in (under filter.now (all_out hits.now))) }
+        ensures told { ToldMore (1 + length (hits_in (under filter.now (all_out hits.now)))) (told view.old) (told view.new) }
     {
         view.clear();
         let mut watch = Watch::all_out(alloc, board, hits)?;
@@ -85,7 +85,7 @@ impl Watch {
         requires shown { Shows (hits_in self.old.games) (rows view.old) }
         ensures watched { OnOk result (self.new ≡ record self.old { games = under filter.now self.old.games }) }
         ensures shown { OnOk result (Shows (hits_in self.new.games) (rows view.new)) }
-        ensures told { told view.new ≤ told view.old + all_changes self.old.games (under filter.now self.old.games) }
+        ensures told { ToldMore (all_changes self.old.games (under filter.now self.old.games)) (told view.old) (told view.new) }
     {
         self.set_filter(filter)?;
         self.show(alloc, view)
@@ -104,7 +104,7 @@ impl Watch {
         requires shown { Shows (hits_in self.old.games) (rows view.old) }
         ensures watched { OnOk result (self.new ≡ record self.old { games = with_game i game self.old.games }) }
         ensures shown { OnOk result (Shows (hits_in self.new.games) (rows view.new)) }
-        ensures told { told view.new ≤ told view.old + all_changes self.old.games (with_game i game self.old.games) }
+        ensures told { ToldMore (all_changes self.old.games (with_game i game self.old.games)) (told view.old) (told view.new) }
     {
         self.set_game(i, game)?;
         self.show(alloc, view)
@@ -121,7 +121,7 @@ impl Watch {
         requires shown { Shows (hits_in self.old.games) (rows view.old) }
         ensures watched { OnOk result (self.new ≡ record self.old { games = renumbered renumbering.now.to self.old.games }) }
         ensures shown { OnOk result (Shows (hits_in self.new.games) (rows view.new)) }
-        ensures told { told view.new ≤ told view.old + all_changes self.old.games (staying renumbering.now.to self.old.games) }
+        ensures told { ToldMore (all_changes self.old.games (staying renumbering.now.to self.old.games)) (told view.old) (told view.new) }
     {
         self.renumber(renumbering)?;
         self.show(alloc, view)
@@ -173,7 +173,8 @@ impl Watch {
     /// Tells a view the rows that differ from those that it shows.
     pub(crate) fn show(&self, alloc: Global, view: &mut dyn TreeView) -> Result<(), AllocError>
         ensures shown { OnOk result (Shows (hits_in self.now.games) (rows view.new)) }
-        ensures told { (hits : List HitValue) → Shows hits (rows view.old) → told view.new ≤ told view.old + rows_changed (rows_of hits) (rows_of (hits_in self.now.games)) }
+        ensures same { (told view.new).who ≡ (told view.old).who }
+        ensures told { (hits : List HitValue) → Shows hits (rows view.old) → (told view.new).changes ≤ (told view.old).changes + rows_changed (rows_of hits) (rows_of (hits_in self.now.games)) }
     {
         let keys = keys_changed(alloc, &*view, self.table.as_slice())?;
         tell(&self.table, view, keys.as_slice())

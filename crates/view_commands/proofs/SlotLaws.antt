@@ -19,7 +19,7 @@ use Rattle.shell_state.specs.State.{State}
 use Rattle.sig_index.specs.declared.pos_query.PosQuery.{PosQuery}
 use Rattle.tree_live.specs.RowChanges.{rows_changed}
 use Rattle.tree_live.specs.Slots.{AreChanged, AreShownIf, AreToldRows, IsShown, IsShownIf, IsTold, IsToldRows, Slotted, in_slot, rows_in}
-use Rattle.tree_live.specs.Views.{Shows}
+use Rattle.tree_live.specs.Views.{Shows, Told}
 use Rattle.tree_live.specs.Watching.{Watched, all_out, hits_in, under}
 use Rattle.tree_rows.specs.Rows.{rows_of}
 use Rattle.tree_rows.specs.declared.hit.GameHit.{GameHit}
@@ -165,11 +165,11 @@ right_beside rows w s k slot views views' right here own others j mine = right_w
 
 -- ---- views that are shown what differs
 
-told_same : {B : Type 0} (told : B → ℕ) (most : ℕ) (before after : Option B) → after ≡ before → IsToldAtMost told most before after
+told_same : {B : Type 0} (told : B → Told) (most : ℕ) (before after : Option B) → after ≡ before → IsToldAtMost told most before after
 told_same told most None after same = same
 told_same told most (Some view) after same = subst (IsToldAtMost told most (Some view)) (sym same) (omega arith)
 
-shown_right : {B : Type 0} (rows : B → List Row) (told : B → ℕ) (plies : Plies) (earlier s : State) (slot : Slot) (watch : Option Watched) (before after : Option B)
+shown_right : {B : Type 0} (rows : B → List Row) (told : B → Told) (plies : Plies) (earlier s : State) (slot : Slot) (watch : Option Watched) (before after : Option B)
     → IsWatchOf s slot watch → plies ≡ s.seat.filter → IfSome watch (λ (w : Watched). length plies ≡ length w.games) → IsRight rows earlier slot before
     → IsToldRows rows told (option_map (λ (w : Watched). rows_in (filtered plies w)) watch) before after → IsShownIf rows (option_map (filtered plies) watch) after → IsRight rows s slot after
 shown_right rows told plies earlier s empty None before after is same fits right tells shown = tells ∙ right
@@ -182,7 +182,7 @@ shown_right rows told plies earlier s (shows board) (Some watch) (Some before) N
 shown_right rows told plies earlier s (shows board) (Some watch) (Some before) (Some after) is same fits right tells shown =
     subst (λ (hits : List GameHit). Shows hits (rows after)) (watch_hits s board plies watch is same fits) shown
 
-shown_told : {B : Type 0} (rows : B → List Row) (told : B → ℕ) (plies : Plies) (earlier s : State) (slot : Slot) (watch : Option Watched) (before after : Option B)
+shown_told : {B : Type 0} (rows : B → List Row) (told : B → Told) (plies : Plies) (earlier s : State) (slot : Slot) (watch : Option Watched) (before after : Option B)
     → IsWatchOf s slot watch → plies ≡ s.seat.filter → IfSome watch (λ (w : Watched). length plies ≡ length w.games) → IsRight rows earlier slot before
     → IsToldRows rows told (option_map (λ (w : Watched). rows_in (filtered plies w)) watch) before after → IsToldAtMost told (changes_of earlier s slot) before after
 shown_told rows told plies earlier s empty None before after is same fits right tells = told_same told 0 before after tells
@@ -197,7 +197,7 @@ shown_told rows told plies earlier s (shows board) (Some watch) (Some before) (S
     (tells (shown_hits earlier board) right)
 
 -- Slots, the first of which is the first view, and what was told to the views of a user's own.
-module _ {B : Type 0} (rows : B → List Row) (told : B → ℕ) (w : Window) (plies : Plies) (slots : Slotted) (views views' : List (Option B)) (first : slots.first ≡ 0)
+module _ {B : Type 0} (rows : B → List Row) (told : B → Told) (w : Window) (plies : Plies) (slots : Slotted) (views views' : List (Option B)) (first : slots.first ≡ 0)
     (tells : AreToldRows rows told (is_own w) (filtered plies) slots views views') where
   tells_at : (k : ℕ) (own : Bool) → is_own w k ≡ own
       → IsToldRows rows told (if own then option_map (λ (x : Watched). rows_in (filtered plies x)) (in_slot slots.watches k) else None) (in_slot views k) (in_slot views' k)
@@ -442,7 +442,7 @@ watch_right rows w s k at board slot watch watches watches' views views' right i
     (new_right rows s board watch (in_slot views' k) hits (subst (λ (n : ℕ). IsShown rows (Some watch) (in_slot views' n)) same own)))
     (λ i other. others i (λ e. other (e ∙ same)))
 
-new_told : {B : Type 0} (told : B → ℕ) (most : ℕ) (before after : Option B) → IsTold told (Some most) before after → IsToldAtMost told most before after
+new_told : {B : Type 0} (told : B → Told) (most : ℕ) (before after : Option B) → IsTold told (Some most) before after → IsToldAtMost told most before after
 new_told told most None after tells = absurd tells
 new_told told most (Some before) None tells = absurd tells
 new_told told most (Some before) (Some after) tells = tells
@@ -457,7 +457,7 @@ names_other w number i less is =
     let not : (w.first + number == i) ≡ false = rw test at is in
     eqb-false (w.first + number) i not
 
-pub watch_told : {B : Type 0} (told : B → ℕ) (w : Window) (number at : ℕ) (hits shown : List GameHit) (views views' : List (Option B)) → number < w.count → at ≡ w.first + number → hits ≡ shown
+pub watch_told : {B : Type 0} (told : B → Told) (w : Window) (number at : ℕ) (hits shown : List GameHit) (views views' : List (Option B)) → number < w.count → at ≡ w.first + number → hits ≡ shown
     → IsTold told (Some (1 + length hits)) (in_slot views at) (in_slot views' at) → ((i : ℕ) → (i ≡ at → ⊥) → in_slot views' i ≡ in_slot views i)
     → AreToldAtMost told (λ (j : ℕ). if nat_lt number w.count && (w.first + number == j) then 1 + length shown else 0) views views'
 watch_told told w number at hits shown views views' less same are tells others j = by (nat_lt number w.count && (w.first + number == j)) refl

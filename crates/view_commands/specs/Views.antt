@@ -12,7 +12,7 @@ use Rattle.shell_state.specs.Work.{Work, quiet, reading}
 use Rattle.shell_state.specs.Meeting.{position_len, tree_hits, tree_of}
 use Rattle.tree_live.specs.RowChanges.{rows_changed}
 use Rattle.tree_live.specs.Slots.{in_slot}
-use Rattle.tree_live.specs.Views.{Shows}
+use Rattle.tree_live.specs.Views.{Shows, Told}
 use Rattle.tree_live.specs.Watching.{all_out, under}
 use Rattle.tree_live.specs.declared.entry.Entry.{Entry}
 use Rattle.tree_rows.specs.Rows.{rows_of}
@@ -108,12 +108,12 @@ abbrev pub entries_of : State → Packed → List Entry
 entries_of s board = under s.seat.filter (all_out (map (hit_of_game (exactly_on board)) s.shared.base.games))
 
 -- A view that stays was told no more than so many changes; there is none if there was none.
-abbrev pub IsToldAtMost : {B : Type 0} → (B → ℕ) → ℕ → Option B → Option B → Type 0
+abbrev pub IsToldAtMost : {B : Type 0} → (B → Told) → ℕ → Option B → Option B → Type 0
 IsToldAtMost told most None after = after ≡ None
 IsToldAtMost told most (Some before) None = Unit {0}
 IsToldAtMost told most (Some before) (Some after) = told after ≤ told before + most
 
-abbrev pub AreToldAtMost : {B : Type 0} → (B → ℕ) → (ℕ → ℕ) → List (Option B) → List (Option B) → Type 0
+abbrev pub AreToldAtMost : {B : Type 0} → (B → Told) → (ℕ → ℕ) → List (Option B) → List (Option B) → Type 0
 AreToldAtMost told most before after = (k : ℕ) → IsToldAtMost told (most k) (in_slot before k) (in_slot after k)
 
 -- Every view but those of some slots is as before.

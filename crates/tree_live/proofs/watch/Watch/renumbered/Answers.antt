@@ -7,4 +7,4 @@ pub returns-clause-told : goal.returns-clause-told
 returns-clause-told g c =
     let few = few-renumbered c.args.renumbering.now.to c.args.self.now.games c.renumber.new.self.games c.requires.same_games
     (ap (λ (w : Watched). w.games) c.in_ok-renumber.ensures.watched) in
-    omega (arith, few, c.show.ensures.told (hits_in c.args.self.now.games) c.requires.shown)
+    record { same = c.show.ensures.same; few = omega (arith, few, c.show.ensures.told (hits_in c.args.self.now.games) c.requires.shown) }

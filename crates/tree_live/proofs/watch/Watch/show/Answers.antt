@@ -19,4 +19,4 @@ returns-clause-told g c hits shows =
     let summed = c.self.invariant.1.summed ∙ ap (λ (w : Watched). rows_of (hits_in w.games)) c.self.view_is in
     let few = told-few c.as_slice-2.result.now hits c.as_slice.result.now _ (rows_of (hits_in c.args.self.now.games))
     (c.as_slice-2.ensures.value ∙ c.in_ok-keys.ensures.keys) (c.as_slice.ensures.rows ∙ summed) c.keys_changed.ensures.once shows in
-    omega (arith, few, c.tell.ensures.counts)
+    omega (arith, few, c.tell.ensures.counts.few)
