@@ -6,6 +6,7 @@ use Rattle.tree_rows.specs.declared.row.Row.{Row}
 use Rattle.tree_live.specs.Watching.{Watched}
 use Rattle.tree_live.specs.Slots.{Slotted, IsShown, IsTold, in_slot}
 use Rattle.tree_live.specs.Views.{Told}
+use Rattle.tree_live.proofs.TellingLaws.{told-nothing-more}
 use Rattle.client_desk.specs.declared.change.Change.{Change}
 use Rattle.client_desk.specs.Seats.{Seated, IsSlot, SeatTold, ShowsSeat}
 use Rattle.client_desk.specs.Changes.{Follows, most_told}
@@ -35,7 +36,7 @@ told-nothing : {B : Type 0} (rows : B → List Row) (told : B → Told) (few : W
     → IsTold told (option_map few watch) slot slot
 told-nothing rows told few None slot h = refl
 told-nothing rows told few (Some watch) None h = absurd h
-told-nothing rows told few (Some watch) (Some view) h = omega arith
+told-nothing rows told few (Some watch) (Some view) h = told-nothing-more (few watch) (told view)
 
 pub slot-of : (slots : Slotted) (k : ℕ) → k < slots.count → IsSlot slots (slots.first + k)
 slot-of slots k below = (omega (arith, below), omega (arith, below))

@@ -144,7 +144,7 @@ impl Seat {
         }
         self.parts
             .slots
-            .watch(alloc, views, k, board, hits, &self.parts.filter)?;
+            .watch(alloc, views, k, board, hits.as_slice(), &self.parts.filter)?;
         Ok(())
     }
 

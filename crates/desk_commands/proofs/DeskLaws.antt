@@ -20,11 +20,12 @@ use Rattle.tree_live.specs.Slots.{in_slot}
 use Rattle.tree_live.specs.Views.{Told}
 use Rattle.tree_rows.specs.declared.row.Row.{Row}
 use Rattle.view_commands.specs.Views.{AreLeft, AreRight, AreToldAtMost, IsRight, IsToldAtMost, changes_of, is_own, is_shown, slot_hits}
+use Rattle.view_commands.proofs.ToldLaws.{told_same}
 use Rattle.view_commands.specs.declared.window.Window.{Window}
 use Rattle.desk_commands.proofs.LendLaws.{brought_by_kind, brought_is}
 use Rattle.desk_commands.proofs.OwnLaws.{both, either, far_own, is_one_of, not_own, number_of, one_of, own_is, owner_has}
 use Rattle.desk_commands.proofs.SharedLaws.{private-keeps}
-use Rattle.desk_commands.proofs.ShowLaws.{Alike, right_like, right_unshown, told_behind, told_same}
+use Rattle.desk_commands.proofs.ShowLaws.{Alike, right_like, right_unshown, told_behind}
 use Rattle.desk_commands.specs.Desk.{Desk, brought, desk_by, each_seat, own_tasks, seen_by, window_of}
 use Rattle.desk_commands.specs.Doing.{most_told_by}
 use Rattle.desk_commands.specs.Kinds.{is_private, order_kind}

@@ -27,9 +27,9 @@ use Rattle.tree_live.specs.Slots.{in_slot}
 use Rattle.tree_live.specs.Views.{Told}
 use Rattle.tree_rows.specs.declared.row.Row.{Row}
 use Rattle.view_commands.specs.Views.{AreLeft, AreToldAtMost, IsToldAtMost, all_slots, changes_of, is_shown, slot_hits}
+use Rattle.view_commands.proofs.ToldLaws.{told_same}
 use Rattle.view_commands.specs.declared.window.Window.{Window}
 use Rattle.shell_commands.specs.Watching.{watches}
-use Rattle.desk_commands.proofs.ShowLaws.{told_same}
 use Rattle.desk_commands.specs.Desk.{Desk, desk_after, desk_by, desk_done, desk_text, lines_to, own_tasks, seen_by, unless_nothing, window_of}
 use Rattle.desk_commands.specs.Doing.{doings, most_told_by}
 use Rattle.desk_commands.specs.Standing.{BrokenLine, DeskHolding, DeskStands, SettledLine, effective, line_left, line_price}

@@ -60,20 +60,6 @@ right_unshown rows s t empty view none is = is
 right_unshown rows s t idle view none is = is
 right_unshown rows s t (shows board) view none is = absurd cc
 
-abbrev told_in : {B : Type 0} → (B → Told) → Option B → Told
-told_in told None = 0
-told_in told (Some view) = told view
-
-told_some : {B : Type 0} (told : B → Told) (most : ℕ) (view later : B) → Some later ≡ Some view → told later ≤ told view + most
-told_some {B = B} told most view later same =
-    let even : told later ≡ told view = ap (λ (o : Option B). told_in told o) same in
-    omega (arith, even)
-
-pub told_same : {B : Type 0} (told : B → Told) (most : ℕ) (before after : Option B) → after ≡ before → IsToldAtMost told most before after
-told_same told most None after same = same
-told_same told most (Some view) None same = tt
-told_same told most (Some view) (Some later) same = told_some told most view later same
-
 -- First no change, and then some.
 pub told_behind : {B : Type 0} (told : B → Told) (most : ℕ) (before mid after : Option B) → mid ≡ before → IsToldAtMost told most mid after → IsToldAtMost told most before after
 told_behind {B = B} told most before mid after same is = subst (λ (view : Option B). IsToldAtMost told most view after) same is

@@ -115,13 +115,13 @@ unfolding tagged game_replaced
 hits_tagged query base i tag held at there =
     ap (λ (o : Option Held). hits_on query (tagged_at i tag o base).games) at ∙ hits_among query (held_of (edited held.head tag) held.game) base.games i there
 
-pub slots_tagged : (kept : Kept) (games : List ℕ) (base : Base) (i : ℕ) (tag : TagEdit) (held : Held) (is_in : Bool) (hits : List (Option GameHit)) (watches watches' : List (Option Watched)) (slots : List Slot)
+pub slots_tagged : (kept : Kept) (games : List ℕ) (base : Base) (i : ℕ) (tag : TagEdit) (held : Held) (hits : List (Option GameHit)) (watches watches' : List (Option Watched)) (slots : List Slot)
     → slice_get base.games i ≡ Some held → i < length base.games → Represents kept games (tagged i tag base) → length watches' ≡ length watches → AreAgain (head_in (heads_of kept) i) i watches hits
-    → ((k : ℕ) → in_slot watches' k ≡ option_map (λ (w : Watched). record w { games = with_game i (record { hit = in_slot hits k; is_in = is_in }) w.games }) (in_slot watches k))
+    → ((k : ℕ) → in_slot watches' k ≡ option_map (λ (w : Watched). record w { games = with_game i (record { hit = in_slot hits k; is_in = false }) w.games }) (in_slot watches k))
     → tables_in watches ≡ tables_of base.games slots → tables_in watches' ≡ tables_of (tagged i tag base).games slots
-slots_tagged kept games base i tag held is_in hits watches watches' slots at there is count again follow tables =
+slots_tagged kept games base i tag held hits watches watches' slots at there is count again follow tables =
     let head : Head = edited held.head tag in
-    slots_follow i is_in head held.game hits watches watches' base.games (tagged i tag base).games slots count
+    slots_follow i head held.game hits watches watches' base.games (tagged i tag base).games slots count
     (are_hits (head_in (heads_of kept) i) head i held base.games slots watches hits again (head_now kept games base i tag held at is) at tables)
     follow (λ query. hits_tagged query base i tag held at there) tables
 

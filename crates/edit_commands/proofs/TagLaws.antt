@@ -91,13 +91,13 @@ tagged_games i tag base held there =
     ap (λ (o : Option Held). map (λ (h : Held). h.game) (tagged_at i tag o base).games) there
     ∙ same_games (λ _. held_of (edited held.head tag) held.game) i base.games held there refl
 
-pub tag_stands : (old new : Kept) (index : Option Index) (watches watches' : List (Option Watched)) (hits : List (Option GameHit)) (is_in : Bool) (filter : List (Option ℕ)) (saved : List SavedFilter) (seen seen' : Seen) (buf : List ℕ)
+pub tag_stands : (old new : Kept) (index : Option Index) (watches watches' : List (Option Watched)) (hits : List (Option GameHit)) (filter : List (Option ℕ)) (saved : List SavedFilter) (seen seen' : Seen) (buf : List ℕ)
     (s : State) (i : ℕ) (tag : TagEdit) → Stands (held_by old (tables_with index watches) filter saved) seen s → i < length old.entries
     → IsTagged i tag old new seen seen' buf → Tags i tag old new seen.games seen'.games → new.unsaved ≡ true → HoldsNames new.names old.names
     → length watches' ≡ length watches → AreAgain (head_in (heads_of new) i) i watches hits
-    → ((k : ℕ) → in_slot watches' k ≡ option_map (λ (w : Watched). record w { games = with_game i (record { hit = in_slot hits k; is_in = is_in }) w.games }) (in_slot watches k))
+    → ((k : ℕ) → in_slot watches' k ≡ option_map (λ (w : Watched). record w { games = with_game i (record { hit = in_slot hits k; is_in = false }) w.games }) (in_slot watches k))
     → Stands (held_by new (tables_with index watches') filter saved) seen' (tag_after s i tag)
-tag_stands old new index watches watches' hits is_in filter saved seen seen' buf s i tag st there is tags unsaved names count again follow =
+tag_stands old new index watches watches' hits filter saved seen seen' buf s i tag st there is tags unsaved names count again follow =
     let held = get_some s.shared.base.games i (omega (arith, there, st.base.count)) in
     let bytes : List ℕ = padded old.end (written_record (edited is.head tag).tags is.game) in
     let same = read-is old st.games seen.games i is.head is.game s.shared.base held.0 st.told is.read st.base held.1 in
@@ -115,7 +115,7 @@ tag_stands old new index watches watches' hits is_in filter saved seen seen' buf
       carried = beside_grown old new seen seen' bytes s.shared.unsaved s.shared.carried is.appended names st.carried;
       tables = ap₂ (λ (x : Option Index) (hits : List (Option HitTable)). record { index = x; hits = hits })
           (index_is st ∙ ap (λ (games : List GameTree). option_map (index_of games) s.shared.index) (sym (tagged_games i tag s.shared.base held.0 held.1)))
-          (slots_tagged new (st.games ++ bytes) s.shared.base i tag held.0 is_in hits watches watches' s.slots held.1 (omega (arith, there, st.base.count)) stood count again follow
+          (slots_tagged new (st.games ++ bytes) s.shared.base i tag held.0 hits watches watches' s.slots held.1 (omega (arith, there, st.base.count)) stood count again follow
           (ap (λ (t : Tables). t.hits) st.tables));
     } in
     subst (Stands (held_by new (tables_with index watches') filter saved) seen') (ap (λ (r : Option (List ℕ)). unless_refused r s (tagged i tag s.shared.base)) (sym none) ∙ ap (tagged_there i tag s) (sym held.1)) standing

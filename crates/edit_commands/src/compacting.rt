@@ -49,7 +49,7 @@ pub fn compact_line<F: Files>(
                 machine.seat.saved.as_mut_slice(),
                 &renumbering,
             );
-            machine.slots.renumber(alloc, &renumbering)?;
+            machine.slots.renumber(&renumbering)?;
             Ok(compacted_line(alloc, games, renumbering.kept())?)
         }
         Err(error) => uncompacted(alloc, error),

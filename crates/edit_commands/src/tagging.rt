@@ -67,8 +67,7 @@ fn set_tag<F: Files>(
     match edited {
         Ok(()) => {
             let hits = retagged(&machine.slots, &machine.base, i);
-            let is_in = machine.seat.filter.get(i).is_some();
-            machine.slots.set_game(alloc, i, &hits, is_in)?;
+            machine.slots.set_game(i, &hits)?;
             Ok(game_line(alloc, b"tagged ", u64::from(i))?)
         }
         Err(error) => refused_line(alloc, error),

@@ -19,13 +19,11 @@ pub(crate) fn wait(slots: &Slots, views: &[Option<Box<dyn TreeView>>], games: u3
 
 /// Game `i` is another.
 pub(crate) fn put(
-    alloc: Global,
     slots: &mut Slots,
     views: &[Option<Box<dyn TreeView>>],
     games: u32,
     i: u32,
     hits: &[Option<GameHit>; 8],
-    is_in: bool,
 ) -> Result<(), AllocError>
     requires few { games < 16777214 }
     requires game { i < games }
@@ -33,12 +31,11 @@ pub(crate) fn put(
     ensures wait { OnOk result (AreWaiting slots.new views.now games) }
 {
     let _views = views.len();
-    slots.set_game(alloc, i, hits, is_in)
+    slots.set_game(i, hits)
 }
 
-/// A game is added that is in.
+/// A game is added.
 pub(crate) fn add(
-    alloc: Global,
     slots: &mut Slots,
     views: &[Option<Box<dyn TreeView>>],
     games: u32,
@@ -49,7 +46,7 @@ pub(crate) fn add(
     ensures wait { OnOk result (AreWaiting slots.new views.now (games + 1)) }
 {
     let _views = views.len();
-    slots.set_game(alloc, games, hits, true)
+    slots.set_game(games, hits)
 }
 
 /// The filter is this one, and the views are told what differs.

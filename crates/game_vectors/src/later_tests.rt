@@ -43,9 +43,9 @@ fn back(
     requires games { length all.now ≡ 3 }
     ensures wait { OnOk result (AreWaiting slots.new views.new 3) }
 {
-    put(alloc, slots, views, 3, 0, &in_slots(None, None), false)?;
+    put(slots, views, 3, 0, &in_slots(None, None))?;
     let hits = in_slots(played(12, 2500), played(12, 2500));
-    put(alloc, slots, views, 3, 0, &hits, true)?;
+    put(slots, views, 3, 0, &hits)?;
     show(alloc, slots, views, all)?;
     Ok(both(rt, views))
 }
@@ -60,9 +60,9 @@ fn behind(
     requires wait { AreWaiting slots.old views.now 3 }
     ensures wait { OnOk result (AreWaiting slots.new views.now 4) }
 {
-    add(alloc, slots, views, 3, &in_slots(played(12, 0), None))?;
+    add(slots, views, 3, &in_slots(played(12, 0), None))?;
     let hits = in_slots(played(11, 0), played(11, 0));
-    put(alloc, slots, views, 4, 0, &hits, true)?;
+    put(slots, views, 4, 0, &hits)?;
     Ok(both(rt, views))
 }
 

@@ -38,7 +38,7 @@ pub(crate) fn watch(
     ensures stand { OnOk result (AreStanding (λ b. rows b) slots.new views.new (length filter.now)) }
     ensures slots { (slots.new.first ≡ slots.old.first) × (slots.new.count ≡ slots.old.count) }
 {
-    slots.watch(alloc, views, k, board, hits, filter)
+    slots.watch(alloc, views, k, board, hits.as_slice(), filter)
 }
 
 /// The filter is this one.

@@ -41,7 +41,7 @@ fn a_view_that_refuses_its_second_row(rt: HostRuntime) -> Result<(), Fail> {
     let filter = Filter::new(alloc, 2)?;
     let board = pack(&Board::empty(), Colour::White);
     let mut view = TableView::new(Vec::new(alloc), Some(1));
-    let watch = Watch::attach(alloc, &mut view, board, hits, &filter);
+    let watch = Watch::attach(alloc, &mut view, board, hits.as_slice(), &filter);
     assert!(rt; watch.is_err());
     assert_eq!(rt; seen(&view), (1, 1, 2));
     Ok(())

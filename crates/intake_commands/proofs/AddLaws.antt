@@ -122,16 +122,16 @@ index_there None i games there fits = tt
 index_there (Some index) i games there fits = omega (arith, there, fits)
 
 -- And the slots have its hits there, where they show trees.
-pub tables_put : (holding : Holding) (seen : Seen) (s : State) (head : Head) (game : GameTree) (index' : Option Index) (i : ℕ) (is_in : Bool) (hits : List (Option GameHit)) (watches watches' : List (Option Watched))
+pub tables_put : (holding : Holding) (seen : Seen) (s : State) (head : Head) (game : GameTree) (index' : Option Index) (i : ℕ) (hits : List (Option GameHit)) (watches watches' : List (Option Watched))
     → Stands holding seen s → i < length holding.kept.entries → index' ≡ option_map (index_with_at i game) holding.tables.index → tables_in watches ≡ holding.tables.hits
     → length watches' ≡ length watches → AreHits watches head game hits
-    → ((k : ℕ) → in_slot watches' k ≡ option_map (λ (w : Watched). record w { games = with_entry i (record { hit = in_slot hits k; is_in = is_in }) w.games }) (in_slot watches k))
+    → ((k : ℕ) → in_slot watches' k ≡ option_map (λ (w : Watched). record w { games = with_entry i (record { hit = in_slot hits k; is_in = false }) w.games }) (in_slot watches k))
     → record { index = index'; hits = tables_in watches' } ≡ tables_by s.shared.index s.slots (game_replaced i head game s.shared.base).games
 unfolding game_replaced
-tables_put holding seen s head game index' i is_in hits watches watches' st there put held count are follow =
+tables_put holding seen s head game index' i hits watches watches' st there put held count are follow =
     ap₂ (λ (x : Option Index) (l : List (Option HitTable)). record { index = x; hits = l })
     (put ∙ ap (option_map (index_with_at i game)) (index_is st) ∙ index_replaced i head game s.shared.base s.shared.index)
-    (slots_follow i is_in head game hits watches watches' s.shared.base.games (changed_at (λ (old : Held). held_of head game) i s.shared.base.games) s.slots count are follow
+    (slots_follow i head game hits watches watches' s.shared.base.games (changed_at (λ (old : Held). held_of head game) i s.shared.base.games) s.slots count are follow
     (λ query. hits_among query (held_of head game) s.shared.base.games i (omega (arith, there, st.base.count)))
     (held ∙ ap (λ (t : Tables). t.hits) st.tables))
 

@@ -120,9 +120,8 @@ fn put_game<F: Files>(
                 i,
             );
             replace_in_index(alloc, &mut machine.index, i, game)?;
-            let is_in = machine.seat.filter.get(i).is_some();
             let hits = hits_of(&machine.slots, head, game);
-            machine.slots.set_game(alloc, i, &hits, is_in)?;
+            machine.slots.set_game(i, &hits)?;
             Ok(game_line(alloc, b"replaced ", u64::from(i))?)
         }
         Err(error) => refused_line(alloc, error),

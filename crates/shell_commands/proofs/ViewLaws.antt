@@ -23,6 +23,7 @@ use Rattle.tree_live.specs.Slots.{in_slot}
 use Rattle.tree_live.specs.Views.{Told}
 use Rattle.tree_rows.specs.declared.row.Row.{Row}
 use Rattle.view_commands.specs.Views.{AreLeft, AreRight, AreToldAtMost, IsRight, IsToldAtMost, changes_of, is_own, is_shown, showing, shown_hits, slot_hits, unwatch_work, watch_work}
+use Rattle.view_commands.proofs.ToldLaws.{told_few, told_same}
 use Rattle.view_commands.specs.declared.window.Window.{Window}
 
 -- ---- results
@@ -46,15 +47,6 @@ or_false false b is = refl
 or_false true b is = is
 
 -- ---- views that are told
-
-pub told_by : {B : Type 0} (told : B → Told) (least most : ℕ) (before after : Option B) → least ≤ most → IsToldAtMost told least before after → IsToldAtMost told most before after
-told_by told least most None after less is = is
-told_by told least most (Some before) None less is = tt
-told_by told least most (Some before) (Some after) less is = omega (arith, less, is)
-
-pub told_none : {B : Type 0} (told : B → Told) (most : ℕ) (view : Option B) → IsToldAtMost told most view view
-told_none told most None = refl
-told_none told most (Some view) = omega arith
 
 -- Views that were shown the rows of the state after the command.
 pub shown_done : {B : Type 0} (rows : B → List Row) (told : B → Told) (w : Window) (s : State) (command : Command) (text : List ℕ) (before after : List (Option B)) → (part_of command ≡ Slots → ⊥)
@@ -140,7 +132,7 @@ told_own : {B : Type 0} (rows : B → List Row) (told : B → Told) (w : Window)
 told_own rows told w s number board side i true before after is right most =
     let P : State → Type 0 = λ t. IsToldAtMost told (1 + length (slot_hits t (slot_at t.slots i))) before after in
     subst P (sym (watched_state w s number i board side is)) (told_slot rows told s i (packed_of board side) (slot_at s.slots i) before after refl right most)
-told_own rows told w s number board side i false before after is right most = told_by told 0 _ before after (omega arith) most
+told_own rows told w s number board side i false before after is right most = told_few told 0 _ before after (omega arith) most
 
 pub watch_done : {B : Type 0} (rows : B → List Row) (told : B → Told) (w : Window) (s : State) (number : ℕ) (board : Men) (side : Colour) (text : List ℕ) (before after : List (Option B)) → AreRight rows w s before
     → AreRight rows w ((watch_work w number board side).after s) after
@@ -164,7 +156,7 @@ watch_done rows told w s number board side text before after right right' counte
 unwatch_done : {B : Type 0} (rows : B → List Row) (told : B → Told) (w : Window) (s : State) (number : ℕ) (text : List ℕ) (before after : List (Option B))
     → AreRight rows w ((unwatch_work w number).after s) after → AreToldAtMost told (λ i. 0) before after → ViewsDone rows told w s (task (Ok (Unwatch number)) text) before after
 unwatch_done rows told w s number text before after right counted =
-    record { right = right; counted = λ i. told_by told 0 _ (in_slot before i) (in_slot after i) (omega arith) (counted i) }
+    record { right = right; counted = λ i. told_few told 0 _ (in_slot before i) (in_slot after i) (omega arith) (counted i) }
 
 pub unwatched : {A E B : Type 0} (r : Result A E) (rows : B → List Row) (told : B → Told) (w : Window) (s : State) (number : ℕ) (text : List ℕ) (before after : List (Option B)) → OnOk r (AreRight rows w ((unwatch_work w number).after s) after)
     → OnOk r (AreToldAtMost told (λ i. 0) before after) → OnOk r (ViewsDone rows told w s (task (Ok (Unwatch number)) text) before after)
@@ -213,4 +205,4 @@ views_shown r rows told w s command text before after other right counted =
 
 -- A faulty line changes nothing.
 pub fault_done : {B : Type 0} (rows : B → List Row) (told : B → Told) (w : Window) (s : State) (fault : ScriptFault) (text : List ℕ) (views : List (Option B)) → AreRight rows w s views → ViewsDone rows told w s (task (Err fault) text) views views
-fault_done rows told w s fault text views right = record { right = right; counted = λ i. told_none told _ (in_slot views i) }
+fault_done rows told w s fault text views right = record { right = right; counted = λ i. told_same told _ (in_slot views i) (in_slot views i) refl }

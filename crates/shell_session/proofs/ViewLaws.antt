@@ -21,9 +21,10 @@ use Rattle.tree_live.specs.Slots.{in_slot}
 use Rattle.tree_live.specs.Views.{Told}
 use Rattle.tree_rows.specs.declared.row.Row.{Row}
 use Rattle.view_commands.specs.Views.{AreLeft, IsRight, IsToldAtMost, is_shown}
+use Rattle.view_commands.proofs.ToldLaws.{told_few, told_same, told_twice}
 use Rattle.shell_session.proofs.DeskLaws.{its_line}
 use Rattle.shell_session.proofs.IdleLaws.{idle_before}
-use Rattle.shell_session.specs.Around.{AreLeftBy, Around, IsLeftIn, Lives, Meaning, Views, around, meanings, slots_by, told_all, told_by, told_more}
+use Rattle.shell_session.specs.Around.{AreLeftBy, Around, IsLeftIn, Lives, Meaning, Views, around, meanings, slots_by, told_all, told_more}
 
 -- ---- views and what they mean
 
@@ -82,13 +83,11 @@ left_by rows told d t held seen seen' first most views views' lives left k other
     let untouched : line_touches d (its_line t) k ≡ false = rw (hidden, other) refl in
     in_meanings rows told views' k ∙ (ap (option_map (meaning rows told)) (left k untouched) ∙ sym (in_meanings rows told views k)))
 
-told_step : {B : Type 0} (rows : B → List Row) (told : B → Told) (most : ℕ) (before after : Option B) → IsToldAtMost told most before after
-    → told_by (option_map (meaning rows told) after) ≤ told_by (option_map (meaning rows told) before) + most
-told_step rows told most None after is =
-    let none : told_by (option_map (meaning rows told) after) ≡ 0 = ap (λ view. told_by (option_map (meaning rows told) view)) is in
-    omega (arith, none)
-told_step rows told most (Some before) None is = omega arith
-told_step rows told most (Some before) (Some after) is = is
+told_meant : {B : Type 0} (rows : B → List Row) (told : B → Told) (most : ℕ) (before after : Option B) → IsToldAtMost told most before after
+    → IsToldAtMost (λ (m : Meaning). m.told) most (option_map (meaning rows told) before) (option_map (meaning rows told) after)
+told_meant rows told most None after is = ap (option_map (meaning rows told)) is
+told_meant rows told most (Some before) None is = tt
+told_meant rows told most (Some before) (Some after) is = is
 
 pub lives_behind : {B : Type 0} (rows : B → List Row) (told : B → Told) (d : Desk) (t : Tagged) (held held' : DeskHolding) (seen seen' : Seen) (first : Views) (most : ℕ → ℕ) (views views' : List (Option B)) (text : List ℕ) (before after : Option (List ℕ))
     → Lives held (around seen first most (meanings rows told views)) d → Done (DeskStands held' seen') (desks.after d t) text before after → LineShown rows told d t views views' → AreLeft (line_touches d (its_line t)) views views'
@@ -102,9 +101,12 @@ lives_behind rows told d t held held' seen seen' first most views views' text be
           let earlier = idle_before d t k is in
           subst (λ slot. IsLeftIn slot (in_slot first k) (in_slot (meanings rows told views') k)) earlier.0 (left_by rows told d t held seen seen' first most views views' lives left k earlier.1);
       told = λ k.
-          let old : told_by (in_slot (meanings rows told views) k) ≡ told_by (option_map (meaning rows told) (in_slot views k)) = ap told_by (in_meanings rows told views k) in
-          let new : told_by (in_slot (meanings rows told views') k) ≡ told_by (option_map (meaning rows told) (in_slot views' k)) = ap told_by (in_meanings rows told views' k) in
-          omega (arith, old, new, told_step rows told (line_told d t k) (in_slot views k) (in_slot views' k) (done.counted k), lives.views.told k);
+          let more : IsToldAtMost (λ (m : Meaning). m.told) (line_told d t k) (in_slot (meanings rows told views) k) (in_slot (meanings rows told views') k)
+          = subst (λ (new : Option Meaning). IsToldAtMost (λ (m : Meaning). m.told) (line_told d t k) (in_slot (meanings rows told views) k) new) (sym (in_meanings rows told views' k))
+          (subst (λ (old : Option Meaning). IsToldAtMost (λ (m : Meaning). m.told) (line_told d t k) old (option_map (meaning rows told) (in_slot views' k))) (sym (in_meanings rows told views k))
+          (told_meant rows told (line_told d t k) (in_slot views k) (in_slot views' k) (done.counted k))) in
+          told_twice (λ (m : Meaning). m.told) (most k) (line_told d t k) _ (in_slot first k) (in_slot (meanings rows told views) k) (in_slot (meanings rows told views') k) (omega arith)
+          (lives.views.told k) more;
     };
   };
   written = did.written;
@@ -128,20 +130,20 @@ whatever_error (Err e) X so = so
 pub lives_more : (held : DeskHolding) (here : Around) (more later : ℕ → ℕ) (d : Desk) → Lives held (told_more here more) d → ((k : ℕ) → more k ≤ later k) → Lives held (told_more here later) d
 lives_more held here more later d lives less = record {
   stands = lives.stands;
-  views = record { right = lives.views.right; idle = lives.views.idle; told = λ k. omega (arith, lives.views.told k, less k) };
+  views = record { right = lives.views.right; idle = lives.views.idle; told = λ k. told_few (λ (m : Meaning). m.told) _ _ (in_slot here.first k) (in_slot here.now k) (omega (arith, less k)) (lives.views.told k) };
 }
 
 pub lives_since : (held : DeskHolding) (here : Around) (more : ℕ → ℕ) (d : Desk) → Lives held here d → Lives held (told_more here more) d
 lives_since held here more d lives = record {
   stands = lives.stands;
-  views = record { right = lives.views.right; idle = lives.views.idle; told = λ k. omega (arith, lives.views.told k) };
+  views = record { right = lives.views.right; idle = lives.views.idle; told = λ k. told_few (λ (m : Meaning). m.told) _ _ (in_slot here.first k) (in_slot here.now k) (omega arith) (lives.views.told k) };
 }
 
 pub lives_twice : (held : DeskHolding) (here : Around) (more again later : ℕ → ℕ) (d : Desk) → Lives held (told_more (told_more here more) again) d → ((k : ℕ) → more k + again k ≤ later k)
     → Lives held (told_more here later) d
 lives_twice held here more again later d lives less = record {
   stands = lives.stands;
-  views = record { right = lives.views.right; idle = lives.views.idle; told = λ k. omega (arith, lives.views.told k, less k) };
+  views = record { right = lives.views.right; idle = lives.views.idle; told = λ k. told_few (λ (m : Meaning). m.told) _ _ (in_slot here.first k) (in_slot here.now k) (omega (arith, less k)) (lives.views.told k) };
 }
 
 -- Some tasks, and then others.
@@ -194,7 +196,7 @@ lives_first held seen views desk created base few stands =
       views = record {
         right = λ k. subst (λ (slot : Slot). IsRight (λ (m : Meaning). m.rows) (owner_sees d k) slot (in_slot views k)) (sym (in_range views 0 8 k few ∙ ap (λ (j : ℕ). slot_by (in_slot views j)) (omega arith))) (slot_right (owner_sees d k) (in_slot views k));
         idle = λ k is. refl;
-        told = λ k. omega arith;
+        told = λ k. told_same (λ (m : Meaning). m.told) 0 (in_slot views k) (in_slot views k) refl;
       };
     }
 

@@ -2,7 +2,6 @@
 -- its beginning and now. Beside them stands how many changes each view was told since then at most.
 use Rattle.std.specs.Prelude.{◌≡◌, ◌≤◌, ◌+◌, ℕ, ⊤, false, if◌then◌else◌, List, [], ◌∷◌, Option, None, is_some, map, option_map}
 use Rattle.std.specs.List.{range_with_len}
-use Rattle.std.specs.Option.{option_map_or}
 use Rattle.base_files.specs.Seen.{Seen}
 use Rattle.desk_commands.specs.Desk.{Desk, desks}
 use Rattle.desk_commands.specs.Standing.{DeskHolding, DeskStands, line_price}
@@ -14,11 +13,12 @@ use Rattle.shell_state.specs.Slots.Slot.{empty, idle, shows}
 use Rattle.tree_live.specs.Slots.{in_slot}
 use Rattle.tree_live.specs.Views.{Told}
 use Rattle.tree_rows.specs.declared.row.Row.{Row}
+use Rattle.view_commands.specs.Views.{AreToldAtMost}
 
--- What a view means: its rows, and how many changes it was told.
+-- What a view means: its rows, which view it is, and how many changes it was told.
 pub record Meaning : Type 0 where
   pub rows : List Row
-  pub told : ℕ
+  pub told : Told
 
 abbrev pub Views : Type 0
 Views = List (Option Meaning)
@@ -36,20 +36,17 @@ pub record Around : Type 0 where
   pub most : ℕ → ℕ
   pub now : Views
 
--- How many changes a view was told that stands in a slot.
-abbrev pub told_by : Option Meaning → ℕ
-told_by view = option_map_or (λ (view : Meaning). view.told) view 0
-
 -- What some tasks come to at a desk, one after the other, by what each of them comes to.
 abbrev pub summed : (Desk → Tagged → ℕ) → Desk → List Tagged → ℕ
 summed of_one d [] = 0
 summed of_one d (next ∷ later) = of_one d next + summed of_one (desks.after d next) later
 
--- The views beside a desk: each is right, one whose slot is idle is as it was at the beginning, and each was told no more changes.
+-- The views beside a desk: each is right, one whose slot is idle is as it was at the beginning, and one that stands is the view that stood
+-- there and was told no more changes.
 pub record AreBeside (around : Around) (d : Desk) : Type 0 where
   pub right : AllRight (λ (view : Meaning). view.rows) d around.now
   pub idle : (k : ℕ) → slot_at d.slots k ≡ idle → in_slot around.now k ≡ in_slot around.first k
-  pub told : (k : ℕ) → told_by (in_slot around.now k) ≤ told_by (in_slot around.first k) + around.most k
+  pub told : AreToldAtMost (λ (view : Meaning). view.told) around.most around.first around.now
 
 -- What a line that is broken off leaves in a slot that it does not watch: no view if it was empty, and if it was idle that of the beginning.
 abbrev pub IsLeftIn : Slot → Option Meaning → Option Meaning → Type 0

@@ -139,13 +139,13 @@ game_added old new tables tables' filter filter' saved saved' seen seen' s head 
 pub tables_grow : (holding : Holding) (seen : Seen) (s : State) (head : Head) (game : GameTree) (index' : Option Index) (number : ℕ) (hits : List (Option GameHit)) (watches watches' : List (Option Watched))
     → Stands holding seen s → number ≡ length holding.kept.entries → index' ≡ option_map (index_with game) holding.tables.index → tables_in watches ≡ holding.tables.hits
     → length watches' ≡ length watches → AreHits watches head game hits
-    → ((k : ℕ) → in_slot watches' k ≡ option_map (λ (w : Watched). record w { games = with_entry number (record { hit = in_slot hits k; is_in = true }) w.games }) (in_slot watches k))
+    → ((k : ℕ) → in_slot watches' k ≡ option_map (λ (w : Watched). record w { games = with_entry number (record { hit = in_slot hits k; is_in = false }) w.games }) (in_slot watches k))
     → record { index = index'; hits = tables_in watches' } ≡ tables_by s.shared.index s.slots (added head game s.shared.base).games
 unfolding added
 tables_grow holding seen s head game index' number hits watches watches' st last grown held count are follow =
     ap₂ (λ (x : Option Index) (l : List (Option HitTable)). record { index = x; hits = l })
     (grown ∙ ap (option_map (index_with game)) (index_is st) ∙ index_added head game s.shared.base s.shared.index)
-    (slots_follow number true head game hits watches watches' s.shared.base.games (s.shared.base.games ++ held_of head game ∷ []) s.slots count are follow
+    (slots_follow number head game hits watches watches' s.shared.base.games (s.shared.base.games ++ held_of head game ∷ []) s.slots count are follow
     (λ query. hits_behind query (held_of head game) s.shared.base.games number (last ∙ st.base.count))
     (held ∙ ap (λ (t : Tables). t.hits) st.tables))
 

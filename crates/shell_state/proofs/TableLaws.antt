@@ -113,12 +113,12 @@ hit_there head game games slot board (Some watch) is same =
     some_one is = cc
 
 -- The slots follow a game that is put among the others or behind them.
-pub slots_follow : (i : ℕ) (is_in : Bool) (head : Head) (game : GameTree) (hits : List (Option GameHit)) (watches watches' : List (Option Watched)) (games games' : List Held) (slots : List Slot)
+pub slots_follow : (i : ℕ) (head : Head) (game : GameTree) (hits : List (Option GameHit)) (watches watches' : List (Option Watched)) (games games' : List Held) (slots : List Slot)
     → length watches' ≡ length watches → AreHits watches head game hits
-    → ((k : ℕ) → in_slot watches' k ≡ option_map (λ (w : Watched). record w { games = with_game i (record { hit = in_slot hits k; is_in = is_in }) w.games }) (in_slot watches k))
+    → ((k : ℕ) → in_slot watches' k ≡ option_map (λ (w : Watched). record w { games = with_game i (record { hit = in_slot hits k; is_in = false }) w.games }) (in_slot watches k))
     → ((query : PosQuery) → hits_on query games' ≡ with_hit i (hit_of_game query (held_of head game)) (hits_on query games))
     → tables_in watches ≡ tables_of games slots → tables_in watches' ≡ tables_of games' slots
-slots_follow i is_in head game hits watches watches' games games' slots count are follow put held =
+slots_follow i head game hits watches watches' games games' slots count are follow put held =
     same_slots (tables_in watches') (tables_of games' slots)
     (length-map watches' (option_map table_in) ∙ (count ∙ (sym (length-map watches (option_map table_in)) ∙ (ap (λ (l : List (Option HitTable)). length l) held
     ∙ (length-map slots (table_of games) ∙ sym (length-map slots (table_of games')))))))
@@ -129,7 +129,7 @@ slots_follow i is_in head game hits watches watches' games games' slots count ar
 
     each : (k : ℕ) → in_slot (tables_in watches') k ≡ in_slot (tables_of games' slots) k
     each k =
-        let entry : Entry = record { hit = in_slot hits k; is_in = is_in } in
+        let entry : Entry = record { hit = in_slot hits k; is_in = false } in
         in_mapped table_in watches' k ∙ (ap (option_map table_in) (follow k) ∙ (table_with i entry (table_of games (slot_at slots k)) (in_slot watches k) (there k)
         ∙ (table_by i (in_slot hits k) games games' (slot_at slots k)
         (λ board is. put (exactly_on board) ∙ ap (λ (hit : Option GameHit). with_hit i hit (hits_on (exactly_on board) games))
@@ -158,18 +158,18 @@ hits_among query held games i there =
 -- ---- how many hits there are
 
 -- Each slot that shows a tree has a hit or none for each game, also where one is put among them or behind them.
-pub hits_fit : (i : ℕ) (is_in : Bool) (hits : List (Option GameHit)) (watches watches' : List (Option Watched)) (games entries : ℕ)
-    → ((k : ℕ) → in_slot watches' k ≡ option_map (λ (w : Watched). record w { games = with_game i (record { hit = in_slot hits k; is_in = is_in }) w.games }) (in_slot watches k))
+pub hits_fit : (i : ℕ) (hits : List (Option GameHit)) (watches watches' : List (Option Watched)) (games entries : ℕ)
+    → ((k : ℕ) → in_slot watches' k ≡ option_map (λ (w : Watched). record w { games = with_game i (record { hit = in_slot hits k; is_in = false }) w.games }) (in_slot watches k))
     → ((n : ℕ) → n ≡ games → (if nat_lt i n then n else n + 1) ≡ entries)
     → ((k : ℕ) → IfSome (in_slot (tables_in watches) k) (λ (table : HitTable). length table.hits ≡ games))
     → (k : ℕ) → IfSome (in_slot (tables_in watches') k) (λ (table : HitTable). length table.hits ≡ entries)
-hits_fit i is_in hits watches watches' games entries follow count fits k =
+hits_fit i hits watches watches' games entries follow count fits k =
     let P : Option HitTable → Type 0 = λ o. IfSome o (λ (table : HitTable). length table.hits ≡ entries) in
     let Q : Option HitTable → Type 0 = λ o. IfSome o (λ (table : HitTable). length table.hits ≡ games) in
     subst P (sym (in_mapped table_in watches' k ∙ ap (option_map table_in) (follow k))) (by (in_slot watches k) (subst Q (in_mapped table_in watches k) (fits k)))
   where
     entry : Entry
-    entry = record { hit = in_slot hits k; is_in = is_in }
+    entry = record { hit = in_slot hits k; is_in = false }
 
     cases : (b : Bool) (i : ℕ) (game : Entry) (all : List Entry) → length (if b then slice_set all i game else all ++ game ∷ []) ≡ (if b then length all else length all + 1)
     cases true i game all = length-set all i game

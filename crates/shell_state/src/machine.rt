@@ -149,7 +149,7 @@ impl Machine {
                 leave_out(alloc, self.seat.saved.as_mut_slice())?;
                 add_to_index(alloc, &mut self.index, number, game)?;
                 let hits = hits_of(&self.slots, head, game);
-                self.slots.set_game(alloc, number, &hits, true)?;
+                self.slots.set_game(number, &hits)?;
                 Ok(Ok(number))
             }
             Err(error) => match refused(error) {

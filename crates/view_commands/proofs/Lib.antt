@@ -4,3 +4,4 @@ mod KeyLaws
 mod PriceLaws
 mod ReadLaws
 mod SlotLaws
+pub mod ToldLaws

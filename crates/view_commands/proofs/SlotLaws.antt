@@ -27,6 +27,7 @@ use Rattle.tree_rows.specs.declared.row.Row.{Row}
 use Rattle.view_commands.specs.Reading.{ShowsIn}
 use Rattle.view_commands.specs.Views.{AreLeft, AreRight, AreToldAtMost, IsRight, IsToldAtMost, changes_of, is_own, is_shown, left, no_view_line, own_slot, shown_hits, showing, unwatch_line, unwatch_work, view_text, watch_line, watch_work, with_slot}
 use Rattle.view_commands.specs.declared.window.Window.{Window}
+use Rattle.view_commands.proofs.ToldLaws.{told_same}
 use Rattle.view_commands.proofs.HitLaws.{IsWatchOf, Plies, filtered, new_watch, tables_with_slot, under_count, watch_hits}
 
 -- ---- what calls answer
@@ -165,10 +166,6 @@ right_beside rows w s k slot views views' right here own others j mine = right_w
 
 -- ---- views that are shown what differs
 
-told_same : {B : Type 0} (told : B → Told) (most : ℕ) (before after : Option B) → after ≡ before → IsToldAtMost told most before after
-told_same told most None after same = same
-told_same told most (Some view) after same = subst (IsToldAtMost told most (Some view)) (sym same) (omega arith)
-
 shown_right : {B : Type 0} (rows : B → List Row) (told : B → Told) (plies : Plies) (earlier s : State) (slot : Slot) (watch : Option Watched) (before after : Option B)
     → IsWatchOf s slot watch → plies ≡ s.seat.filter → IfSome watch (λ (w : Watched). length plies ≡ length w.games) → IsRight rows earlier slot before
     → IsToldRows rows told (option_map (λ (w : Watched). rows_in (filtered plies w)) watch) before after → IsShownIf rows (option_map (filtered plies) watch) after → IsRight rows s slot after
@@ -193,8 +190,11 @@ shown_told rows told plies earlier s (shows board) None before after is same fit
 shown_told rows told plies earlier s (shows board) (Some watch) None after is same fits right tells = absurd right
 shown_told rows told plies earlier s (shows board) (Some watch) (Some before) None is same fits right tells = absurd tells
 shown_told rows told plies earlier s (shows board) (Some watch) (Some before) (Some after) is same fits right tells =
-    subst (λ (hits : List GameHit). told after ≤ told before + rows_changed (rows_of (shown_hits earlier board)) (rows_of hits)) (watch_hits s board plies watch is same fits)
-    (tells (shown_hits earlier board) right)
+    record {
+      same = tells.0;
+      few = subst (λ (hits : List GameHit). (told after).changes ≤ (told before).changes + rows_changed (rows_of (shown_hits earlier board)) (rows_of hits))
+          (watch_hits s board plies watch is same fits) (tells.1 (shown_hits earlier board) right);
+    }
 
 -- Slots, the first of which is the first view, and what was told to the views of a user's own.
 module _ {B : Type 0} (rows : B → List Row) (told : B → Told) (w : Window) (plies : Plies) (slots : Slotted) (views views' : List (Option B)) (first : slots.first ≡ 0)

@@ -12,7 +12,7 @@ use Rattle.shell_state.specs.Work.{Work, quiet, reading}
 use Rattle.shell_state.specs.Meeting.{position_len, tree_hits, tree_of}
 use Rattle.tree_live.specs.RowChanges.{rows_changed}
 use Rattle.tree_live.specs.Slots.{in_slot}
-use Rattle.tree_live.specs.Views.{Shows, Told}
+use Rattle.tree_live.specs.Views.{Shows, Told, ToldMore}
 use Rattle.tree_live.specs.Watching.{all_out, under}
 use Rattle.tree_live.specs.declared.entry.Entry.{Entry}
 use Rattle.tree_rows.specs.Rows.{rows_of}
@@ -107,11 +107,11 @@ changes_of s later _ = 0
 abbrev pub entries_of : State → Packed → List Entry
 entries_of s board = under s.seat.filter (all_out (map (hit_of_game (exactly_on board)) s.shared.base.games))
 
--- A view that stays was told no more than so many changes; there is none if there was none.
+-- A view that stays is the one that stood there, and was told no more than so many changes; there is none if there was none.
 abbrev pub IsToldAtMost : {B : Type 0} → (B → Told) → ℕ → Option B → Option B → Type 0
 IsToldAtMost told most None after = after ≡ None
 IsToldAtMost told most (Some before) None = Unit {0}
-IsToldAtMost told most (Some before) (Some after) = told after ≤ told before + most
+IsToldAtMost told most (Some before) (Some after) = ToldMore most (told before) (told after)
 
 abbrev pub AreToldAtMost : {B : Type 0} → (B → Told) → (ℕ → ℕ) → List (Option B) → List (Option B) → Type 0
 AreToldAtMost told most before after = (k : ℕ) → IsToldAtMost told (most k) (in_slot before k) (in_slot after k)

@@ -77,7 +77,7 @@ pub fn watch<F: Files>(
     let packed = pack(board, side);
     machine
         .slots
-        .watch(alloc, views, k, packed, hits, &machine.seat.filter)?;
+        .watch(alloc, views, k, packed, hits.as_slice(), &machine.seat.filter)?;
     Ok(game_line(alloc, b"watching ", number)?)
 }
 

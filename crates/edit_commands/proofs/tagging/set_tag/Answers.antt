@@ -71,7 +71,7 @@ pub returns-in_ok-game_line-in-Ok-clause-stands : goal.returns-in_ok-game_line-i
 returns-in_ok-game_line-in-Ok-clause-stands g c = λ s st.
     let st' = subst (λ (h : Holding). Stands h (g.F.Files.seen c.args.files.now) s) (sym c.machine.view_is) st in
     let there = subst (λ (h : Holding). c.args.i < length h.kept.entries) (sym c.machine.view_is) c.requires.there in
-    tag_stands c.machine.inside.base c.set_tag-edited.new.self c.machine.inside.index c.machine.inside.slots.watches c.set_game.new.self.watches c.retagged-hits.result _ c.machine.inside.seat.filter c.machine.inside.seat.saved.items (g.F.Files.seen c.args.files.now) (g.F.Files.seen c.set_tag-edited.new.files) c.set_tag-edited.new.buf s c.args.i c.args.edit.now st' there
+    tag_stands c.machine.inside.base c.set_tag-edited.new.self c.machine.inside.index c.machine.inside.slots.watches c.set_game.new.self.watches c.retagged-hits.result c.machine.inside.seat.filter c.machine.inside.seat.saved.items (g.F.Files.seen c.args.files.now) (g.F.Files.seen c.set_tag-edited.new.files) c.set_tag-edited.new.buf s c.args.i c.args.edit.now st' there
     c.in-Ok.ensures.edited c.in-Ok.ensures.tagged c.in-Ok.ensures.unsaved c.set_tag-edited.ensures.names
     c.set_game.ensures.number c.retagged-hits.ensures.hits c.in_ok-set_game-in-Ok.ensures.watched
 
@@ -82,7 +82,7 @@ returns-in_ok-game_line-in-Ok-clause-sound g c =
     record {
       tables = record {
         index = subst (λ (n : ℕ). IfSome c.machine.inside.index (λ (x : Index). length x.rows ≡ n)) (sym c.set_tag-edited.ensures.count) sound.tables.index;
-        hits = hits_fit c.args.i _ c.retagged-hits.result c.machine.inside.slots.watches c.set_game.new.self.watches (length c.machine.inside.base.entries) (length c.set_tag-edited.new.self.entries)
+        hits = hits_fit c.args.i c.retagged-hits.result c.machine.inside.slots.watches c.set_game.new.self.watches (length c.machine.inside.base.entries) (length c.set_tag-edited.new.self.entries)
             c.in_ok-set_game-in-Ok.ensures.watched (one_among c.args.i (length c.machine.inside.base.entries) (length c.set_tag-edited.new.self.entries) there c.set_tag-edited.ensures.count) sound.tables.hits;
       };
       fits = fits_count c.machine.inside.base c.set_tag-edited.new.self (tables_with c.machine.inside.index c.machine.inside.slots.watches) c.machine.inside.seat.filter c.machine.inside.seat.saved.items c.set_tag-edited.ensures.count sound.fits;

@@ -79,7 +79,7 @@ returns-in_ok-game_line-in-Ok-clause-stands g c = λ s st.
     replace_stands c.machine.inside.base c.replace_game-replaced.new.self (tables_with c.machine.inside.index c.machine.inside.slots.watches) (tables_with c.replace_in_index.new.index c.set_game.new.self.watches) c.machine.inside.seat.filter c.put_at_start.new.filter c.machine.inside.seat.saved.items (with_items c.machine.inside.seat.saved c.put_at_start.new.saved).items (g.F.Files.seen c.args.files.now) (g.F.Files.seen c.replace_game-replaced.new.files) s c.args.i c.args.head.now c.args.game.now st' sound.at_end
     c.in-Ok.ensures.replaced c.in-Ok.ensures.room c.in-Ok.ensures.appended c.in-Ok.ensures.unsaved c.replace_game-replaced.ensures.names c.put_at_start.ensures.filter
     (lent_items (kept_to_start c.args.i) c.machine.inside.seat.saved c.as_mut_slice.result.now c.put_at_start.new.saved c.as_mut_slice.ensures.value c.put_at_start.ensures.saved)
-    (tables_put _ _ s c.args.head.now c.args.game.now c.replace_in_index.new.index c.args.i _ c.hits_of-hits.result c.machine.inside.slots.watches c.set_game.new.self.watches st' there
+    (tables_put _ _ s c.args.head.now c.args.game.now c.replace_in_index.new.index c.args.i c.hits_of-hits.result c.machine.inside.slots.watches c.set_game.new.self.watches st' there
     c.in_ok-replace_in_index-in-Ok.ensures.replaced refl c.set_game.ensures.number c.hits_of-hits.ensures.hits c.in_ok-set_game-in-Ok.ensures.watched)
 
 pub returns-in_ok-game_line-in-Ok-clause-sound : goal.returns-in_ok-game_line-in-Ok-clause-sound
@@ -90,7 +90,7 @@ returns-in_ok-game_line-in-Ok-clause-sound g c =
       tables = record {
         index = index_keeps c.machine.inside.index c.replace_in_index.new.index c.args.i (length c.machine.inside.base.entries) (length c.replace_game-replaced.new.self.entries) c.args.game.now
             c.in_ok-replace_in_index-in-Ok.ensures.replaced c.replace_game-replaced.ensures.count sound.tables.index;
-        hits = hits_fit c.args.i _ c.hits_of-hits.result c.machine.inside.slots.watches c.set_game.new.self.watches (length c.machine.inside.base.entries) (length c.replace_game-replaced.new.self.entries)
+        hits = hits_fit c.args.i c.hits_of-hits.result c.machine.inside.slots.watches c.set_game.new.self.watches (length c.machine.inside.base.entries) (length c.replace_game-replaced.new.self.entries)
             c.in_ok-set_game-in-Ok.ensures.watched (one_among c.args.i (length c.machine.inside.base.entries) (length c.replace_game-replaced.new.self.entries) there c.replace_game-replaced.ensures.count) sound.tables.hits;
       };
       fits = replace_fits c.machine.inside.base c.replace_game-replaced.new.self (tables_with c.machine.inside.index c.machine.inside.slots.watches) (tables_with c.replace_in_index.new.index c.set_game.new.self.watches) c.machine.inside.seat.filter c.put_at_start.new.filter c.machine.inside.seat.saved.items (with_items c.machine.inside.seat.saved c.put_at_start.new.saved).items c.args.i c.replace_game-replaced.ensures.count c.put_at_start.ensures.filter

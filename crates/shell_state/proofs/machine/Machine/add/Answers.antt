@@ -77,7 +77,7 @@ returns-in_ok-set_game-in-Ok-clause-sound g c =
       tables = record {
         index = index_grows c.self.inside.index c.add_to_index.new.index (length c.self.inside.base.entries) (length c.add-added.new.self.entries) c.args.game.now
             c.in_ok-add_to_index-in-Ok.ensures.added c.in-Ok.ensures.count sound.tables.index;
-        hits = hits_fit c.in-Ok.number true c.hits_of-hits.result c.self.inside.slots.watches c.set_game.new.self.watches (length c.self.inside.base.entries) (length c.add-added.new.self.entries)
+        hits = hits_fit c.in-Ok.number c.hits_of-hits.result c.self.inside.slots.watches c.set_game.new.self.watches (length c.self.inside.base.entries) (length c.add-added.new.self.entries)
             c.in_ok-set_game-in-Ok.ensures.watched (one_behind c.in-Ok.number (length c.self.inside.base.entries) (length c.add-added.new.self.entries) c.in-Ok.ensures.number c.in-Ok.ensures.count) sound.tables.hits;
       };
       fits = add_fits c.self.inside.base c.add-added.new.self (tables_with c.self.inside.index c.self.inside.slots.watches) (tables_with c.add_to_index.new.index c.set_game.new.self.watches) c.self.inside.seat.filter c.push.new.self c.self.inside.seat.saved.items (with_items c.self.inside.seat.saved c.leave_out.new.saved).items c.in-Ok.ensures.count c.in_ok-push-in-Ok.ensures.added
