@@ -142,9 +142,7 @@ impl Seat {
         if !self.parts.slots.holds(views, k) {
             return Err(SlotError::NoView);
         }
-        self.parts
-            .slots
-            .watch(alloc, views, k, board, hits.as_slice(), &self.parts.filter)?;
+        self.parts.slots.watch(alloc, views, k, board, hits.as_slice(), &self.parts.filter)?;
         Ok(())
     }
 

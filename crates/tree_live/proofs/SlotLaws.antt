@@ -59,7 +59,7 @@ slot-told : {B : Type 0} (rows : B → List Row) (told : B → Told) (change : C
 slot-told rows told change k None before after fits shown h = h
 slot-told rows told change k (Some watch) None after fits shown h = absurd shown
 slot-told rows told change k (Some watch) (Some old) None fits shown h = absurd h
-slot-told rows told change k (Some watch) (Some old) (Some new) fits shown h = 
+slot-told rows told change k (Some watch) (Some old) (Some new) fits shown h =
     record { same = h.0; few = omega (arith, h.1 (hits_in watch.games) shown, few-told change k watch fits) }
 
 pub brought-told : {B : Type 0} (rows : B → List Row) (told : B → Told) (change : Change) (inside slots : Slotted) (k first : ℕ) (after : List (Option Watched))

@@ -75,9 +75,14 @@ pub fn watch<F: Files>(
         Err(halt) => return Err(halt),
     };
     let packed = pack(board, side);
-    machine
-        .slots
-        .watch(alloc, views, k, packed, hits.as_slice(), &machine.seat.filter)?;
+    machine.slots.watch(
+        alloc,
+        views,
+        k,
+        packed,
+        hits.as_slice(),
+        &machine.seat.filter,
+    )?;
     Ok(game_line(alloc, b"watching ", number)?)
 }
 
