@@ -1,5 +1,5 @@
 -- The tests of setups decide.
-use Rattle.chess_laws.proofs.Words.{◌≡◌, Bool, true, ◌&&◌, ◌==◌, is_none, ap, refl, arith, nat_tests, Decides, Decides-and, Decides-like, White, same_colour, same_men, same_colour-Decides, same_men-Decides, Rights, Setup, start_men, start_setup}
+use Rattle.chess_laws.proofs.Words.{◌≡◌, Bool, true, ◌==◌, ap, refl, arith, nat_tests, Decides, Decides-and, Decides-like, White, same_colour-Decides, same_men-Decides, Rights, Setup, start_men, start_setup}
 use Rattle.chess_laws.specs.Position.{bits_of, is_start}
 use Rattle.chess_laws.proofs.Running.{is_none-Decides}
 
@@ -20,6 +20,5 @@ is_start-Decides p =
     (λ (h : (p.board ≡ n.board) × ((p.side ≡ n.side) × ((p.rights ≡ n.rights) × (p.en_passant ≡ n.en_passant)))).
     λ i. record { board = h.0 i; side = h.1.0 i; rights = h.1.1.0 i; en_passant = h.1.1.1 i })
     (λ (h : p ≡ n). (ap (λ (s : Setup). s.board) h, (ap (λ (s : Setup). s.side) h, (ap (λ (s : Setup). s.rights) h, ap (λ (s : Setup). s.en_passant) h))))
-    (Decides-and (same_men p.board start_men) (same_colour p.side White && ((bits_of p.rights == 15) && is_none p.en_passant)) (same_men-Decides p.board start_men)
-    (Decides-and (same_colour p.side White) ((bits_of p.rights == 15) && is_none p.en_passant) (same_colour-Decides p.side White)
-    (Decides-and (bits_of p.rights == 15) (is_none p.en_passant) (all_rights p.rights) (is_none-Decides p.en_passant))))
+    (Decides-and _ _ (same_men-Decides p.board start_men)
+    (Decides-and _ _ (same_colour-Decides p.side White) (Decides-and _ _ (all_rights p.rights) (is_none-Decides p.en_passant))))

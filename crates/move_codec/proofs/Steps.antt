@@ -1,5 +1,5 @@
 -- The numbered squares after a legal move are those of the men after it, the kings' first.
-use Rattle.move_codec.proofs.Words.{◌≡◌, ℕ, ◌<◌, false, cond, eqb, List, Option, Some, None, length, slice_get, set, inl, inr, refl, sym, ◌∙◌, ap, subst, eqb_tells, get_or_from_slice_get, set-get_or, Colour, White, Black, Kind, King, Rook, Pawn, Man, Move, Men, man_at, put, man, other, is_man, is_of, Setup, Effect, Passing, Castle, Null, rook_home, rook_target, Sound, Case, moved, board_after, effect_of, passed_square, Step, Going, going, passed-stands, length-moved, Goes, length-put, on_board, put-other, put-same, relocate, castle-crossed, castle-rook_goes, castle-squares, Numbers, AreNumbers, number_of, squares_of, went, without, movers_after, capture_square, numbers_by, numbers_after}
+use Rattle.move_codec.proofs.Words.{◌≡◌, ℕ, ◌<◌, false, cond, eqb, List, Option, Some, None, length, slice_get, set, inl, inr, refl, sym, ◌∙◌, ap, eqb_tells, get_or_from_slice_get, set-get_or, Colour, White, Black, Kind, King, Rook, Pawn, Man, Move, Men, man_at, put, man, other, is_man, is_of, Setup, Effect, Passing, Castle, Null, rook_home, rook_target, Sound, Case, moved, board_after, effect_of, passed_square, Step, Going, going, passed-stands, length-moved, Goes, length-put, on_board, put-other, put-same, relocate, castle-crossed, castle-rook_goes, castle-squares, Numbers, AreNumbers, number_of, squares_of, went, without, movers_after, capture_square, numbers_by, numbers_after}
 use Rattle.move_codec.proofs.Lists.{at, found}
 use Rattle.move_codec.proofs.Boards.{Numbering, are_numbers, enemy_man, no_own, numbering_of, own_man, own_of_enemy}
 use Rattle.move_codec.proofs.Tracking.{Tracked, Tracked-like, Tracked-went, Tracked-without, Tracks-other, idle, there}
@@ -30,12 +30,9 @@ goes men a b c k j own enemy g (mine, theirs) =
     let fewer = Tracked-without (other c) (at (man_at men) a None) enemy (theirs.0, left) b x (enemy_man c j) in
     (Tracked-like (went own a b) gone relocated, Tracked-like (without enemy b) fewer relocated)
 
--- to an empty square: none is taken
-goes_free : (men : Men) (a b : ℕ) (c : Colour) (k j : Kind) (own enemy : List ℕ) → Goes men a b c k j → man_at men b ≡ None → Sides c men own enemy
-    → Sides c (relocate men a b (Some (man c j))) (went own a b) enemy
-goes_free men a b c k j own enemy g empty sides =
-    subst (λ l. Sides c (relocate men a b (Some (man c j))) (went own a b) l) (idle (other c) (man_at men) enemy sides.1 b None (ap (is_of (other c)) empty))
-    (goes men a b c k j own enemy g sides)
+-- none is taken from an empty square
+none-taken : (men : Men) (c : Colour) (own enemy : List ℕ) (s : ℕ) → man_at men s ≡ None → Sides c men own enemy → without enemy s ≡ enemy
+none-taken men c own enemy s empty sides = idle (other c) (man_at men) enemy sides.1 s None (ap (is_of (other c)) empty)
 
 -- a man of the other side is taken away
 taken : (men : Men) (s : ℕ) (c : Colour) (k : Kind) (own enemy : List ℕ) → length men ≡ 64 → man_at men s ≡ Some (man (other c) k) → Sides c men own enemy
@@ -54,14 +51,15 @@ module _ (p : Setup) (m : Move) (own enemy : List ℕ) (sound : Sound p) (before
   both : (e : Effect) → effect_of p m ≡ e → Case p m e → Sides p.side (board_after p m e) (movers_after p.side m e own) (without enemy (capture_square m e))
   both Passing is c =
       -- the passed pawn is taken away, and none on the target
-      let none : without enemy m.to ≡ enemy = idle (other p.side) (man_at p.board) enemy before.1 m.to None (ap (is_of (other p.side)) c.empty) in
       taken (moved p m) (passed_square m) p.side Pawn (went own m.from m.to) enemy (length-moved p m sound.squares) (passed-stands p m c)
-      (rw none at (gone (going p m Passing sound is c (λ n. cc))))
+      (rw (none-taken p.board p.side own enemy m.to c.empty before) at (gone (going p m Passing sound is c (λ n. cc))))
   both (Castle wing) is c =
       -- the rook goes too, to a square that the king has crossed
       let at = castle-squares p m wing c.stands is in
-      goes_free (moved p m) (rook_home p.side wing) (rook_target p.side wing) p.side Rook Rook (went own m.from m.to) (without enemy m.to)
-      (castle-rook_goes p m wing sound (length-moved p m sound.squares) at c) (castle-crossed p m wing at c) (gone (going p m (Castle wing) sound is c (λ n. cc)))
+      let king = gone (going p m (Castle wing) sound is c (λ n. cc)) in
+      rw (none-taken (moved p m) p.side (went own m.from m.to) (without enemy m.to) (rook_target p.side wing) (castle-crossed p m wing at c) king) at
+      (goes (moved p m) (rook_home p.side wing) (rook_target p.side wing) p.side Rook Rook (went own m.from m.to) (without enemy m.to)
+      (castle-rook_goes p m wing sound (length-moved p m sound.squares) at c) king)
   both Null is c =
       -- the king keeps his square
       let n : ℕ = number_of own m.from in
