@@ -2,7 +2,7 @@
 use Rattle.chess_laws.proofs.Words.{◌≡◌, ℕ, is_none, nat_eq, zero, suc, ◌<◌, Bool, false, not, ◌&&◌, ◌==◌, IsTrue, Option, Some, None, List, All, Any, rules, refl, sym, ap, subst, Decides, list_all, list_any, Decides-and, Decides-or, Decides-not, Decides-like, Decides-eqb, Decides-below_or, Decides-by_and, and_parts, Any-from_list_any, list_any-from_Any, Colour, Kind, King, Knight, Pawn, Man, Move, Men, man_at, man, other, is_man, is_of, same_colour, same_colour-Decides, Setup, Effect, Plain, Double, Passing, Castle, Null, Offset, shift, forward, pawn_captures, knight_steps, king_steps, Leaps, Walk, Runs, Attacks, IsInCheck, Reaches, slides, king_path, has_right, board_after, effect_of, after, passed_square, promotes_rightly, HasNoOwn, GoesPlainly, Case, Legal, option_eq, option_map_or, reaches_now, goes_plainly_now, case_now}
 use Rattle.chess_laws.specs.Castling.{between}
 use Rattle.chess_laws.specs.LegalNow.{some_below, leaps_now, walks_now, runs_now, attacks_now, in_check_now, legal_now}
-use Rattle.chess_laws.proofs.Running.{is_none-Decides, short-walk, walk-ends}
+use Rattle.chess_laws.proofs.Running.{is_none-Decides, reach-ends, short-walk}
 use Rattle.chess_laws.proofs.Kings.{is_man-Decides}
 
 -- the tests of squares and men
@@ -81,12 +81,6 @@ attacks-Decides men c s =
     (λ h. let (k, f) = h in (f.from, f.on_board, (k, (f.stands, f.reaches))))
     (some_below-Decides (λ a. option_map_or (λ m. same_colour m.colour c && reaches_now men c m.kind a s) (man_at men a) false) _
     (λ a. of-Decides c (man_at men a) (λ k. reaches_now men c k a s) _ (λ k. reaches-Decides men c k a s)) 64)
-
-reach-ends : (men : Men) (c : Colour) (k : Kind) (a b : ℕ) → Reaches men c k a b → b < 64
-reach-ends men c King a b (n, o, less, at, leap) = walk-ends men o zero a b leap
-reach-ends men c Knight a b (n, o, less, at, leap) = walk-ends men o zero a b leap
-reach-ends men c Pawn a b (n, o, less, at, leap) = walk-ends men o zero a b leap
-reach-ends men c k a b (n, o, less, at, (m, walk)) = walk-ends men o m a b walk
 
 pub in_check-Decides : (men : Men) (c : Colour) → Decides (in_check_now men c) (IsInCheck men c)
 unfolding in_check_now

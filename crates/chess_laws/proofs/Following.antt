@@ -1,22 +1,20 @@
 -- A legal move leads from a position within the rules to one within the rules.
-use Rattle.chess_laws.proofs.Words.{◌≡◌, ℕ, ◌<◌, inl, inr, eqb, Some, None, IsTrue, refl, sym, ◌∙◌, ap, arith, eqb-false, nat_tests, Colour, White, Kind, King, Rook, Knight, Pawn, Man, Move, man_at, man, other, Rights, Setup, Wing, KingSide, QueenSide, Effect, Plain, Double, Passing, Castle, Null, rank_of, forward, IsInCheck, king_home, rook_home, rook_target, has_right, keeps, rights_after, StandAtHome, Sound, HasFitEnPassant, effect_of, GoesPlainly, PassingCase, CastleCase, Case, arriving, last_rank, moved, passed_square, board_after, rights_left, en_passant_after, after}
+use Rattle.chess_laws.proofs.Words.{◌≡◌, ℕ, ◌<◌, inl, inr, eqb, Some, None, IsTrue, refl, sym, ◌∙◌, ap, arith, eqb-false, nat_tests, Colour, White, Kind, King, Rook, Pawn, Man, Move, man_at, man, other, Rights, Setup, Wing, KingSide, QueenSide, Effect, Plain, Double, Passing, Castle, Null, rank_of, forward, IsInCheck, king_home, rook_home, rook_target, has_right, keeps, rights_after, StandAtHome, Sound, HasFitEnPassant, effect_of, GoesPlainly, PassingCase, CastleCase, Case, arriving, last_rank, moved, passed_square, board_after, rights_left, en_passant_after, after}
 use Rattle.chess_laws.proofs.Shifts.{shift-Some}
-use Rattle.chess_laws.proofs.Running.{walk-ends}
+use Rattle.chess_laws.proofs.Running.{reach-ends, walk-ends}
 use Rattle.chess_laws.proofs.Boards.{man-colour, man-kind, put-other, relocate-stays, other-other, on_board, Goes, free-goes, Inside, Kept, Sound-kept, Kept-goes, Kept-away}
 use Rattle.chess_laws.proofs.Keeping.{other-apart, Lands, lands, lands_as, arriving-lands, plain-goes, pawn-ahead, ahead-inside, double-inside, passing-inside, moved-other, castle-squares, castle-apart, castle-crossed, castle-rook_goes}
 
 -- each case ends on the board
 plain-on_board : (p : Setup) (m : Move) (k : Kind) → GoesPlainly p k m → m.to < 64
 plain-on_board p m Pawn (inl g) = (shift-Some (forward p.side) m.from m.to g.0).on_board
-plain-on_board p m Pawn (inr g) = (shift-Some g.0.1 m.from m.to g.0.4).on_board
-plain-on_board p m King g = (shift-Some g.0.1 m.from m.to g.0.4).on_board
-plain-on_board p m Knight g = (shift-Some g.0.1 m.from m.to g.0.4).on_board
-plain-on_board p m k g = walk-ends p.board g.0.1 g.0.4.0 m.from m.to g.0.4.1
+plain-on_board p m Pawn (inr g) = reach-ends p.board p.side Pawn m.from m.to g.0
+plain-on_board p m k g = reach-ends p.board p.side k m.from m.to g.0
 
 pub case-on_board : (p : Setup) (m : Move) (e : Effect) → Sound p → effect_of p m ≡ e → Case p m e → m.to < 64
 case-on_board p m Plain sound is case = plain-on_board p m case.kind case.goes
 case-on_board p m Double sound is case = walk-ends p.board (forward p.side) 1 m.from m.to case.walks
-case-on_board p m Passing sound is case = (shift-Some case.goes.1 m.from m.to case.goes.4).on_board
+case-on_board p m Passing sound is case = reach-ends p.board p.side Pawn m.from m.to case.goes
 case-on_board p m (Castle w) sound is case = rw (castle-squares p m w case.stands is).to (castle-apart p.board p.side w case.empty).king_less
 case-on_board p m Null sound is case = rw case.stays (on_board p.board m.from (man p.side King) sound.squares case.stands)
 
@@ -27,11 +25,13 @@ pub record Going (p : Setup) (m : Move) : Type 0 where
   pub goes : Goes p.board m.from m.to p.side kind becomes
   pub brings : arriving p m m.promo ≡ Some (man p.side becomes)
   pub inside : becomes ≡ Pawn → Inside m.to
+  pub stays : m.promo ≡ None → becomes ≡ kind
 
 free-going : (p : Setup) (m : Move) (k : Kind) → Sound p → man_at p.board m.from ≡ Some (man p.side k) → m.to < 64 → man_at p.board m.to ≡ None →
     m.promo ≡ None → (k ≡ Pawn → Inside m.to) → Going p m
 free-going p m k sound stands less empty none inside =
-    record { kind = k; becomes = k; goes = free-goes p.board m.from m.to p.side k sound.squares stands less empty; brings = rw none stands; inside = inside }
+    let free = free-goes p.board m.from m.to p.side k sound.squares stands less empty in
+    record { kind = k; becomes = k; goes = free; brings = rw none stands; inside = inside; stays = λ none. refl }
 
 pub going : (p : Setup) (m : Move) (e : Effect) → Sound p → effect_of p m ≡ e → Case p m e → (e ≡ Null → ⊥) → Going p m
 going p m Plain sound is case moves =
@@ -48,6 +48,7 @@ going p m Plain sound is case moves =
           let pawn = comes.pawn e in
           ahead-inside p.side m.from m.to (pawn-ahead p m (rw pawn.0 at case.goes)) less (sound.pawns m.from p.side (rw pawn.0 at case.stands))
           (eqb-false (rank_of m.to) (last_rank p.side) pawn.1);
+      stays = ap (lands_as k);
     }
 going p m Double sound is case moves =
     free-going p m Pawn sound case.stands (case-on_board p m Double sound is case) case.target case.promo
@@ -67,7 +68,7 @@ kept p sound = record { squares = sound.squares; kings = sound.kings; pawns = so
 going-kept : (p : Setup) (m : Move) → Sound p → Going p m → Kept (moved p m)
 going-kept p m sound g = rw g.brings (Kept-goes p.board m.from m.to p.side g.kind g.becomes (kept p sound) g.goes g.inside)
 
-passed-stands : (p : Setup) (m : Move) → PassingCase p m → man_at (moved p m) (passed_square m) ≡ Some (man (other p.side) Pawn)
+pub passed-stands : (p : Setup) (m : Move) → PassingCase p m → man_at (moved p m) (passed_square m) ≡ Some (man (other p.side) Pawn)
 passed-stands p m case =
     relocate-stays p.board m.from m.to (arriving p m m.promo) (passed_square m) (man (other p.side) Pawn) case.passed
     (λ h. other-apart p.side (man-colour p.side (other p.side) Pawn Pawn (sym case.stands ∙ h))) (λ h. cc case.empty)

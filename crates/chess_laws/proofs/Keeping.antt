@@ -1,8 +1,8 @@
 -- The board keeps its rules in each case of a move: its squares, its kings, its pawns and how many men there are.
-use Rattle.chess_laws.proofs.Words.{length, ◌≡◌, ℕ, zero, suc, ◌+◌, ◌<◌, inl, inr, Bool, true, false, ◌&&◌, cond, Option, Some, None, is_none, IsTrue, refl, sym, ◌∙◌, ap, arith, lit<, Any, All, nat_tests, Colour, White, Black, Kind, King, Queen, Rook, Pawn, Man, Move, Men, man_at, man, other, same_kind, Setup, Wing, KingSide, QueenSide, Castle, Offset, rank_of, forward, pawn_captures, Leaps, Walk, AttacksAs, Reaches, king_home, king_target, rook_home, rook_target, Sound, en_passant_rank, effect_as, effect_of, GoesPlainly, may_become, last_rank, pawn_rank, CastleCase, arriving, moved}
+use Rattle.chess_laws.proofs.Words.{length, ◌≡◌, ℕ, zero, suc, ◌+◌, ◌<◌, inl, inr, Bool, true, false, ◌&&◌, cond, Option, Some, None, is_none, IsTrue, refl, sym, ◌∙◌, ap, arith, lit<, Any, All, nat_tests, Colour, White, Black, Kind, King, Queen, Rook, Pawn, Man, Move, Men, man_at, put, man, other, same_kind, Setup, Wing, KingSide, QueenSide, Castle, Offset, rank_of, forward, pawn_captures, Leaps, Walk, AttacksAs, Reaches, king_home, king_target, rook_home, rook_target, Sound, en_passant_rank, effect_as, effect_of, GoesPlainly, may_become, last_rank, pawn_rank, CastleCase, arriving, moved}
 use Rattle.chess_laws.specs.Castling.{between}
 use Rattle.chess_laws.proofs.Shifts.{shift-Some}
-use Rattle.chess_laws.proofs.Boards.{man-colour, other-other, colour_cases, on_board, relocate-other, Goes, free-goes, Inside}
+use Rattle.chess_laws.proofs.Boards.{man-colour, other-other, colour_cases, length-put, on_board, relocate-other, Goes, free-goes, Inside}
 
 pub other-apart : (c : Colour) → other c ≡ c → ⊥
 other-apart White h = cc
@@ -94,6 +94,9 @@ plain-goes p m k j sound stands go less same =
 pub moved-other : (p : Setup) (m : Move) (s : ℕ) → (s ≡ m.from → ⊥) → (s ≡ m.to → ⊥) → man_at (moved p m) s ≡ man_at p.board s
 moved-other p m s from to = relocate-other p.board m.from m.to (arriving p m m.promo) s from to
 
+pub length-moved : (p : Setup) (m : Move) → length p.board ≡ 64 → length (moved p m) ≡ 64
+length-moved p m squares = length-put (put p.board m.from None) m.to (arriving p m m.promo) (length-put p.board m.from None squares)
+
 -- which squares castling uses
 pub record CastleSquares (p : Setup) (m : Move) (w : Wing) : Type 0 where
   pub from : m.from ≡ king_home p.side
@@ -124,23 +127,21 @@ castle-empty men White KingSide all = (all 1 0 (lit< tt), all 0 0 (lit< tt))
 castle-empty men c QueenSide all = (all 1 0 (lit< tt), all 2 0 (lit< tt))
 castle-empty men c w all = (all 1 0 (lit< tt), all 0 0 (lit< tt))
 
-castle-differ : (c : Colour) (w : Wing) → (rook_home c w ≡ king_home c → ⊥) × (rook_home c w ≡ king_target c w → ⊥)
-    × (rook_target c w ≡ king_home c → ⊥) × (rook_target c w ≡ king_target c w → ⊥) × (rook_target c w < 64) × (king_target c w < 64)
-castle-differ White KingSide = (λ e. omega arith, λ e. omega arith, λ e. omega arith, λ e. omega arith, omega arith, omega arith)
-castle-differ c QueenSide = (λ e. omega arith, λ e. omega arith, λ e. omega arith, λ e. omega arith, omega arith, omega arith)
-castle-differ c w = (λ e. omega arith, λ e. omega arith, λ e. omega arith, λ e. omega arith, omega arith, omega arith)
-
 pub castle-apart : (men : Men) (c : Colour) (w : Wing) → All (λ s. man_at men s ≡ None) (between c w) → Apart men c w
 castle-apart men c w all =
     let e = castle-empty men c w all in
-    let d = castle-differ c w in
-    record { king_to = e.0; rook_to = e.1; rook_from = d.0; rook_from_to = d.1; rook_to_from = d.2; rook_to_to = d.3; rook_less = d.4; king_less = d.5 }
+    record {
+      king_to = e.0;
+      rook_to = e.1;
+      rook_from = λ h. grind arith;
+      rook_from_to = λ h. grind arith;
+      rook_to_from = λ h. grind arith;
+      rook_to_to = λ h. grind arith;
+      rook_less = grind arith;
+      king_less = grind arith;
+    }
 
--- the king goes to an empty square, and then the rook to the one that he has crossed
-pub castle-king_goes : (p : Setup) (m : Move) (w : Wing) → Sound p → m.to < 64 → CastleSquares p m w → CastleCase p m w → Goes p.board m.from m.to p.side King King
-castle-king_goes p m w sound less at case =
-    free-goes p.board m.from m.to p.side King sound.squares case.stands less (rw at.to (castle-apart p.board p.side w case.empty).king_to)
-
+-- the rook goes to the square that the king has crossed
 pub castle-crossed : (p : Setup) (m : Move) (w : Wing) → CastleSquares p m w → CastleCase p m w → man_at (moved p m) (rook_target p.side w) ≡ None
 castle-crossed p m w at case =
     let apart = castle-apart p.board p.side w case.empty in

@@ -1,5 +1,5 @@
 -- A side that has one king has it where the first one stands.
-use Rattle.chess_laws.proofs.Words.{◌≡◌, ℕ, zero, suc, ◌+◌, ◌<◌, Bool, true, false, cond, List, [], ◌∷◌, length, count_by, Option, Some, None, get_or, refl, ◌∙◌, ap, arith, Decides, position_or_len, position, sum_by-cons, cases_Bool, inl, inr, ltb, Decides-and, Decides-like, nat_tests, Colour, Kind, King, Man, Men, man_at, man, is_man, same_colour-Decides, same_kind-Decides, king_square}
+use Rattle.chess_laws.proofs.Words.{◌≡◌, ℕ, zero, suc, ◌+◌, ◌<◌, Bool, true, false, cond, List, [], ◌∷◌, length, count_by, Option, Some, None, get_or, refl, ◌∙◌, ap, one-add, arith, Decides, position_or_len, position, sum_by-cons, cases_Bool, inl, inr, ltb, Decides-and, Decides-like, nat_tests, Colour, Kind, King, Man, Men, man_at, man, is_man, same_colour-Decides, same_kind-Decides, king_square}
 
 -- the test of a man finds just that man
 pub is_man-Decides : (c : Colour) (k : Kind) (x : Option Man) → Decides (is_man c k x) (x ≡ Some (man c k))
@@ -34,9 +34,6 @@ only-first p (x ∷ xs) (suc s) d fails one h =
       | inr isnt ↦ let r = only-first p xs s d fails (omega (arith, count-cons p x xs false isnt)) h in rw isnt (omega arith)
     ]
 
-add_one_left : (n : ℕ) → 1 + n ≡ suc n
-add_one_left n = omega arith
-
 -- where one passes, the first does, and stands in the list
 first-is : {X : Type 0} (p : X → Bool) (xs : List X) (d : X) → 0 < count_by p xs →
     (position_or_len p xs < length xs) × (p (get_or xs (position_or_len p xs) d) ≡ true)
@@ -44,7 +41,7 @@ first-is p [] d some = absurd (omega arith)
 first-is p (x ∷ xs) d some =
     elim (cases_Bool (p x)) [
       | inl is ↦ rw is (omega arith, is)
-      | inr isnt ↦ let r = first-is p xs d (omega (arith, count-cons p x xs false isnt)) in rw isnt (omega arith, rw add_one_left r.1)
+      | inr isnt ↦ let r = first-is p xs d (omega (arith, count-cons p x xs false isnt)) in rw isnt (omega arith, rw one-add r.1)
     ]
 
 pub king-stands : (men : Men) (c : Colour) → count_by (is_man c King) men ≡ 1 → man_at men (king_square men c) ≡ Some (man c King)

@@ -3,7 +3,7 @@ use Rattle.chess_laws.proofs.Words.{◌≡◌, ℕ, zero, suc, ◌⊎◌, inl, i
 use Rattle.chess_laws.proofs.Attackers.{by-attackers, hits-attack, slides-or-leaps}
 use Rattle.chess_laws.proofs.Boards.{length-put, man-colour, man-kind, on_board, other-other, put-same, put-other}
 use Rattle.chess_laws.proofs.Clear.{Slider}
-use Rattle.chess_laws.proofs.Keeping.{other-apart}
+use Rattle.chess_laws.proofs.Keeping.{length-moved, other-apart}
 use Rattle.chess_laws.proofs.Following.{going, Going}
 use Rattle.chess_laws.proofs.Soundness.{checked}
 use Rattle.chess_laws.proofs.Running.{walk-ends}
@@ -31,15 +31,12 @@ moved-was p m q x squares came stands =
 after-was : (p : Setup) (m : Move) (e : Effect) (q : ℕ) (x : Man) → length p.board ≡ 64 → (q ≡ m.to → arriving p m m.promo ≡ Some x → ⊥)
     → (x ≡ man p.side Rook → ⊥) → man_at (board_after p m e) q ≡ Some x → man_at p.board q ≡ Some x
 after-was p m Passing q x squares came rook stands =
-    let whole = length-put (put p.board m.from None) m.to (arriving p m m.promo) (length-put p.board m.from None squares) in
-    moved-was p m q x squares came (put-was (moved p m) (passed_square m) None q x whole (λ here e. cc) stands)
+    moved-was p m q x squares came (put-was (moved p m) (passed_square m) None q x (length-moved p m squares) (λ here e. cc) stands)
 after-was p m (Castle w) q x squares came rook stands =
-    let whole = length-put (put p.board m.from None) m.to (arriving p m m.promo) (length-put p.board m.from None squares) in
     let home = rook_home p.side w in
-    let gone = length-put (moved p m) home None whole in
-    moved-was p m q x squares came
-    (put-was (moved p m) home None q x whole (λ here e. cc)
-    (put-was (put (moved p m) home None) (rook_target p.side w) (Some (man p.side Rook)) q x gone (λ here e. rook cc) stands))
+    let whole = length-moved p m squares in
+    let left = put-was (put (moved p m) home None) (rook_target p.side w) (Some (man p.side Rook)) q x (length-put (moved p m) home None whole) (λ here e. rook cc) stands in
+    moved-was p m q x squares came (put-was (moved p m) home None q x whole (λ here e. cc) left)
 after-was p m Null q x squares came rook stands = stands
 after-was p m e q x squares came rook stands = moved-was p m q x squares came stands
 

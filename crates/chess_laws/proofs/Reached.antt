@@ -24,11 +24,6 @@ unfolding rest
 fewer true a c h less = omega (arith, ltb-true a c h)
 fewer false a c h less = omega (arith, ltb-true c a h)
 
-few : (up : Bool) (a : ℕ) → a < 64 → rest up a < 65
-unfolding rest
-few true a less = omega arith
-few false a less = omega arith
-
 -- whether no man stands on a square
 vacant : (men : Men) (c : ℕ) → (bit_at (set_of is_some men) c ≡ 1 → ⊥) ↔ (man_at men c ≡ None)
 vacant men c = (λ none. none-of (man_at men c) (λ h. none (told.1 h)), λ empty set. false≢true (sym (ap is_some empty) ∙ told.0 set))
@@ -126,7 +121,7 @@ module _ (table : List (List ℕ)) (row : ℕ) (says : names_rays table ≡ true
           let (b_less, (there, none)) = walked men n a b less walk in
           (there, λ c c_there full first. (vacant men c).1 (none c (bit-less (entry table row a) c (fits a less) (eqb-true _ 1 c_there)) c_there first) full),
       λ (there, none).
-          walks men 65 a b less (bit-less (entry table row a) b (fits a less) (eqb-true _ 1 there)) (few (rises row) a less) there
+          walks men (suc (rest (rises row) a)) a b less (bit-less (entry table row a) b (fits a less) (eqb-true _ 1 there)) (omega arith) there
           (λ c c_less c_there first. (vacant men c).0 (λ full. none c c_there full first)),
     )
 

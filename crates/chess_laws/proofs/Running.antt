@@ -1,5 +1,5 @@
 -- A walk over empty squares is at most seven steps long.
-use Rattle.chess_laws.proofs.Words.{◌≡◌, ℕ, zero, suc, ◌+◌, ◌-◌, ◌<◌, ◌≤◌, inl, inr, Option, Some, None, is_none, refl, arith, Decides, cases_order, Men, man_at, Offset, file_of, rank_of, shift, Walk, Runs}
+use Rattle.chess_laws.proofs.Words.{◌≡◌, ℕ, zero, suc, ◌+◌, ◌-◌, ◌<◌, ◌≤◌, inl, inr, Option, Some, None, is_none, refl, arith, Decides, cases_order, Colour, Kind, King, Knight, Pawn, Men, man_at, Offset, file_of, rank_of, shift, Walk, Runs, Reaches}
 use Rattle.chess_laws.proofs.Shifts.{shift-Some}
 
 pub is_none-Decides : {A : Type 0} (x : Option A) → Decides (is_none x) (x ≡ None)
@@ -10,6 +10,12 @@ is_none-Decides (Some s) = (λ h. absurd (cc), λ h. absurd (cc))
 pub walk-ends : (men : Men) (o : Offset) (n a b : ℕ) → Walk men o n a b → b < 64
 walk-ends men o zero a b walk = (shift-Some o a b walk).on_board
 walk-ends men o (suc n) a b walk = walk-ends men o n walk.0 b walk.3
+
+pub reach-ends : (men : Men) (c : Colour) (k : Kind) (a b : ℕ) → Reaches men c k a b → b < 64
+reach-ends men c King a b (n, o, less, at, leap) = walk-ends men o zero a b leap
+reach-ends men c Knight a b (n, o, less, at, leap) = walk-ends men o zero a b leap
+reach-ends men c Pawn a b (n, o, less, at, leap) = walk-ends men o zero a b leap
+reach-ends men c k a b (n, o, less, at, (m, walk)) = walk-ends men o m a b walk
 
 -- a number that rises at each step of a walk, up to 8, so that the walk is short
 rises : (men : Men) (o : Offset) (height : ℕ → ℕ) → ((x y : ℕ) → shift o x ≡ Some y → (height x < height y) × (height y ≤ 8)) →

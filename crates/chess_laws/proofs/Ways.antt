@@ -1,13 +1,12 @@
 -- The table of ways says which step leads from one square towards another.
-use Rattle.chess_laws.proofs.Words.{◌≡◌, ℕ, ◌<◌, ◌≤◌, true, List, Option, Some, None, refl, ap, arith, agree_below, agree_below_at, eqb-true, leb-true, nat_tests, is_row, way}
+use Rattle.chess_laws.proofs.Words.{◌≡◌, ℕ, ◌<◌, ◌≤◌, true, List, Option, Some, None, refl, ap, arith, eqb-true, leb-true, nat_tests, is_row, way}
 use Rattle.chess_laws.specs.LegalTests.{line}
 use Rattle.chess_laws.specs.Ways.{names_lines}
+use Rattle.chess_laws.proofs.Rows.{pair-at}
 
 row-named : (table : List ℕ) (a b : ℕ) → names_lines table ≡ true → a < 64 → b < 64 → is_row (line a b) (way table a b) ≡ true
 unfolding names_lines
-row-named table a b all a_less b_less =
-    let rows = agree_below_at (λ a. agree_below (λ b. is_row (line a b) (way table a b)) (λ b. true) 64) (λ a. true) 64 a all a_less in
-    agree_below_at (λ b. is_row (line a b) (way table a b)) (λ b. true) 64 b rows b_less
+row-named table a b all a_less b_less = pair-at (λ a b. is_row (line a b) (way table a b)) 64 64 a b all a_less b_less
 
 row-some : (x : Option ℕ) (n : ℕ) → is_row x n ≡ true → n < 8 → Some n ≡ x
 row-some None n h less = absurd (omega (arith, leb-true 8 n h))

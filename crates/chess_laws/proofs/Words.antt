@@ -32,7 +32,7 @@ pub use Rattle.chess_laws.specs.declared.setup.Setup.{Setup}
 pub use Rattle.chess_laws.specs.declared.setup.Wing.{Wing}
 pub use Rattle.chess_laws.specs.declared.setup.Wing.TheVariants.{KingSide, QueenSide}
 pub use Rattle.chess_laws.specs.declared.targets.SquareSet.{SquareSet}
-pub use Rattle.std.proofs.Common.{◌≡◌, ◌↔◌, ℕ, ◌<◌, true, refl, arith, List, ◌++◌, Any, ◌⊎◌, inl, inr, Some, ◌+◌, ◌≤◌, ◌≢◌, Bool, false, cond, Option, None, length, count_by, sym, ◌∙◌, ap, zero, suc, ◌^◌, IsTrue, ◌&&◌, ◌==◌, eqb, [], is_none, is_some, subst, ◌-◌, ◌∷◌, not, All, rules, pow_pos, ◌*◌, ◌/◌, ◌%◌, ltb, IsBitSet, w16, lit<, get_or, ◌||◌, length-append, slice_index_or, min, w64, leb}
+pub use Rattle.std.proofs.Common.{◌≡◌, ◌↔◌, ℕ, ◌<◌, true, refl, arith, List, ◌++◌, Any, ◌⊎◌, inl, inr, Some, ◌+◌, ◌≤◌, ◌≢◌, Bool, false, cond, Option, None, length, count_by, sym, ◌∙◌, ap, zero, suc, ◌^◌, IsTrue, ◌&&◌, ◌==◌, eqb, [], is_none, is_some, subst, ◌-◌, ◌∷◌, not, All, rules, pow_pos, ◌*◌, ◌/◌, ◌%◌, ltb, IsBitSet, w16, lit<, get_or, ◌||◌, length-append, slice_index_or, min, w64, leb, one-add}
 pub use Rattle.std.proofs.Math.Bool.{and-false}
 pub use Rattle.std.proofs.Math.ListN.{length-set}
 pub use Rattle.std.proofs.Math.Nat.{pow-suc}

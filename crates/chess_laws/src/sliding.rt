@@ -1,9 +1,9 @@
 //! How far men slide.
-ghost use Rattle.std.specs.Prelude.{◌≡◌, ◌↔◌, ℕ, ◌<◌, ◌++◌, List, true, is_some, Any, IsTrue, MatchOption};
+ghost use Rattle.std.specs.Prelude.{◌≡◌, ◌↔◌, ℕ, ◌+◌, ◌<◌, ◌∷◌, List, true, is_some, Any, IsTrue, MatchOption};
 ghost use Rattle.std.specs.Int.{bit_at};
 ghost use Rattle.cell_core.specs.Board.{Men};
 ghost use Rattle.cell_core.specs.Sets.{set_of};
-ghost use Rattle.chess_laws.specs.Geometry.{Offset, Runs, bishop_steps, rook_steps};
+ghost use Rattle.chess_laws.specs.Geometry.{Offset, Runs};
 ghost use Rattle.chess_laws.specs.LegalTests.{glides, slides};
 ghost use Rattle.chess_laws.specs.RayTable.{before, names_rays, rises};
 ghost use Rattle.chess_laws.specs.Rays.{offset_at};
@@ -51,31 +51,23 @@ pub fn run_squares(occupied: u64, kind: Kind, from: Square) -> u64
     ensures { (men : Men) → occupied ≡ set_of is_some men → (b : ℕ) → (bit_at result b ≡ 1) ↔ Any (Runs men from b) (slides kind) }
 {
     match kind {
-        Kind::Rook => with_lines(0, occupied, from),
-        Kind::Bishop => diagonal_squares(occupied, from),
-        Kind::Queen => with_lines(diagonal_squares(occupied, from), occupied, from),
+        Kind::Rook => with_rows(0, 0, occupied, from),
+        Kind::Bishop => with_rows(4, 0, occupied, from),
+        Kind::Queen => with_rows(0, with_rows(4, 0, occupied, from), occupied, from),
         Kind::King | Kind::Knight | Kind::Pawn => 0,
     }
 }
 
-// Where steps along files and ranks lead, and these squares, to which other steps do.
+// Where the steps of this row and the next three lead, and these squares, to which other steps do.
 #[inline(always)]
-fn with_lines(squares: u64, occupied: u64, from: Square) -> u64
-    ensures { (men : Men) → occupied ≡ set_of is_some men → (steps : List Offset) → (b : ℕ) → ((bit_at squares b ≡ 1) ↔ Any (Runs men from b) steps) → (bit_at result b ≡ 1) ↔ Any (Runs men from b) (rook_steps ++ steps) }
+fn with_rows(first: u8, squares: u64, occupied: u64, from: Square) -> u64
+    requires rows { first < 5 }
+    ensures { (men : Men) → occupied ≡ set_of is_some men → (steps : List Offset) → (b : ℕ) → ((bit_at squares b ≡ 1) ↔ Any (Runs men from b) steps) → (bit_at result b ≡ 1) ↔ Any (Runs men from b) (offset_at first ∷ offset_at (first + 1) ∷ offset_at (first + 2) ∷ offset_at (first + 3) ∷ steps) }
 {
-    row_squares(occupied, 0, from)
-        | (row_squares(occupied, 1, from)
-            | (row_squares(occupied, 2, from) | (row_squares(occupied, 3, from) | squares)))
-}
-
-// Where steps along diagonals lead.
-#[inline(always)]
-fn diagonal_squares(occupied: u64, from: Square) -> u64
-    ensures { (men : Men) → occupied ≡ set_of is_some men → (b : ℕ) → (bit_at result b ≡ 1) ↔ Any (Runs men from b) bishop_steps }
-{
-    row_squares(occupied, 4, from)
-        | (row_squares(occupied, 5, from)
-            | (row_squares(occupied, 6, from) | (row_squares(occupied, 7, from) | 0)))
+    row_squares(occupied, first, from)
+        | (row_squares(occupied, first + 1, from)
+            | (row_squares(occupied, first + 2, from)
+                | (row_squares(occupied, first + 3, from) | squares)))
 }
 
 // Where equal steps of this row lead.

@@ -59,10 +59,11 @@ impl<'a> AllWalk<'a> {
         // Nothing was passed unread, so it is the first fault of the bytes.
         ensures first { IfErr result (IsRecordFault bytes.now) }
     {
-        match begin(bytes) {
-            Ok(read) => Ok(AllWalk {
+        let mut start = Numbered::standard();
+        match begin(bytes, &mut start) {
+            Ok(used) => Ok(AllWalk {
                 bytes,
-                lines: Lines::beginning(read.start, bytes.split_at(read.used).1),
+                lines: Lines::beginning(start, bytes.split_at(used).1),
                 given: 0,
             }),
             Err(breach) => Err(fault_at(bytes, breach)),

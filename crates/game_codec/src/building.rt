@@ -60,7 +60,7 @@ pub(crate) fn build(alloc: Global, start: &Numbered, bytes: &[u8]) -> Result<Bui
 {
     let (_, texts) = bytes.split_at(moves_len(bytes));
     let mut builder = Builder::new(alloc);
-    let mut place = Place::beginning(0, start);
+    let mut place = Place::beginning(0, start.copy());
     let taken = build_line(alloc, &mut place, bytes, texts, &mut builder)?;
     if bytes.len() - taken.moves != texts.len() || taken.texts != texts.len() {
         return Err(Unread);

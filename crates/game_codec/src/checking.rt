@@ -20,6 +20,7 @@ use super::tally::Tally;
 use super::texts::zero_at;
 use super::token::Token;
 use super::tokens::next_token;
+use move_codec::Numbered;
 
 /// The first fault of these bytes, or `None` if they are a record: each list of bytes is one or has a fault. It takes no
 /// memory. A record has fewer than 2^32 bytes.
@@ -42,10 +43,11 @@ fn check(bytes: &[u8]) -> Result<(), Breach>
     ensures err { IfErr result (Tells (Breaks bytes.now)) }
 {
     let (_, behind_tags) = bytes.split_at(tags_len(bytes)?);
-    let start = read_start(behind_tags)?;
-    let (_, behind_start) = behind_tags.split_at(start.used);
+    let mut start = Numbered::standard();
+    let read = read_start(behind_tags, &mut start)?;
+    let (_, behind_start) = behind_tags.split_at(read);
     let mut tally = Tally::new();
-    let used = check_line(Place::beginning(0, &start.start), behind_start, &mut tally)?;
+    let used = check_line(Place::beginning(0, start), behind_start, &mut tally)?;
     let (_, behind_moves) = behind_start.split_at(used);
     let _some = check_texts(tally.comments, behind_moves)?;
     Ok(())

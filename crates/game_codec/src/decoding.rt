@@ -20,7 +20,7 @@ use super::start::read_start;
 use super::tags::read_tags;
 use chess_laws::Position;
 use game_tree::{Branch, Game, Tag};
-use move_codec::MoveFault;
+use move_codec::{MoveFault, Numbered};
 use std::alloc::Global;
 
 /// The game and the extra tags of a record, and the position in which the main line ends.
@@ -76,13 +76,17 @@ fn read_record(alloc: Global, bytes: &[u8]) -> Result<Decoded, Unread>
 {
     let tags = read_tags(alloc, bytes)?;
     let (_, behind_tags) = bytes.split_at(tags.used);
-    let start = read_start(behind_tags)?;
-    let (_, behind_start) = behind_tags.split_at(start.used);
-    let Built { branch, last } = build(alloc, &start.start, behind_start)?;
+    let mut start = Numbered::standard();
+    let read = read_start(behind_tags, &mut start)?;
+    let (_, behind_start) = behind_tags.split_at(read);
+    let Built { branch, last } = build(alloc, &start, behind_start)?;
     let Branch { lead, line } = branch;
+    let position = start.position();
+    // A game begins at a position within the rules.
+    let _setup = position.setup();
     Ok(Decoded {
         game: Game {
-            start: *start.start.position(),
+            start: *position,
             lead,
             line,
         },

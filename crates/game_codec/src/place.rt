@@ -36,13 +36,13 @@ impl Model for Place {
 
 impl Place {
     /// The beginning of a line with so many variations open.
-    pub(crate) fn beginning(depth: u32, start: &Numbered) -> Place
-        ensures beginning { result ≡ beginning depth start.now }
+    pub(crate) fn beginning(depth: u32, start: Numbered) -> Place
+        ensures beginning { result ≡ beginning depth start }
     {
         Place {
             depth,
             before: start.copy(),
-            here: start.copy(),
+            here: start,
             has_move: false,
             has_comment: false,
         }
@@ -53,7 +53,7 @@ impl Place {
         requires room { self.now.depth < deepest }
         ensures variation { result ≡ variation_of self.now }
     {
-        Place::beginning(self.depth + 1, &self.before)
+        Place::beginning(self.depth + 1, self.before.copy())
     }
 
     /// The position behind the last move.

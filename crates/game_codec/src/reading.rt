@@ -23,6 +23,7 @@ use super::totals::Totals;
 use super::walk::{begin, fault_at};
 use cell_core::Move;
 use chess_laws::Position;
+use move_codec::Numbered;
 use std::marker::Model;
 
 /// A reading of a record that goes from one move of the main line to the next and checks all that stands between them.
@@ -55,12 +56,13 @@ impl<'a> Reading<'a> {
         ensures start { IfOk result (λ reading. reading.ply ≡ 0) }
         ensures fault { IfErr result (IsRecordFault bytes.now) }
     {
-        match begin(bytes) {
-            Ok(read) => Ok(Reading {
+        let mut start = Numbered::standard();
+        match begin(bytes, &mut start) {
+            Ok(used) => Ok(Reading {
                 bytes,
                 at: At {
-                    rest: bytes.split_at(read.used).1,
-                    place: Place::beginning(0, &read.start),
+                    rest: bytes.split_at(used).1,
+                    place: Place::beginning(0, start),
                     tally: Tally::new(),
                 },
                 ply: 0,

@@ -9,7 +9,7 @@ ghost use Rattle.game_codec.specs.Breach.{Tells};
 ghost use Rattle.game_codec.specs.Fault.{Breaks, IsRecordFault};
 ghost use Rattle.game_codec.specs.RecordAnswer.{place_of};
 ghost use Rattle.game_codec.specs.Record.{IsRecord, IsSomeRecord, IsSpelled};
-ghost use Rattle.game_codec.specs.Start.{BeginsStart};
+ghost use Rattle.game_codec.specs.Start.{BeginsStart, standard_start};
 ghost use Rattle.game_codec.specs.TagReading.{BeginsTags};
 ghost use Rattle.game_codec.specs.Walk.{IsMet};
 ghost use Rattle.game_codec.specs.Walking.{GoesOn, IsBehind, MetIn};
@@ -18,7 +18,7 @@ use super::breach::Breach;
 use super::decoding::place_of;
 use super::fault::{RecordFault, RecordWhat};
 use super::passing::before_move;
-use super::start::{StartRead, read_start};
+use super::start::read_start;
 use super::tags::tags_len;
 use cell_core::Move;
 use chess_laws::Position;
@@ -60,11 +60,12 @@ impl<'a> Walk<'a> {
         // Nothing was passed unread, so it is the first fault of the bytes.
         ensures first { IfErr result (IsRecordFault bytes.now) }
     {
-        match begin(bytes) {
-            Ok(read) => Ok(Walk {
+        let mut here = Numbered::standard();
+        match begin(bytes, &mut here) {
+            Ok(used) => Ok(Walk {
                 bytes,
-                ahead: bytes.split_at(read.used).1,
-                here: read.start,
+                ahead: bytes.split_at(used).1,
+                here,
                 ply: 0,
             }),
             Err(breach) => Err(fault_at(bytes, breach)),
@@ -115,21 +116,19 @@ impl<'a> Walk<'a> {
     }
 }
 
-// The start of a record, and how many bytes stand before its moves.
-pub(crate) fn begin(bytes: &[u8]) -> Result<StartRead, Breach>
-    ensures begun { IfOk result (λ read. (tags : List TagValue) (game : GameTree) → IsRecord bytes.now tags game → IsBehind game read.start 0 (drop read.used bytes.now)) }
-    ensures starts { IfOk result (λ read. (tags : List TagValue) (game : GameTree) (r : IsSpelled bytes.now tags game) → (r.start ≡ read.start) × (r.behind_start ≡ drop read.used bytes.now)) }
-    ensures used { IfOk result (λ read. read.used ≤ length bytes.now) }
-    ensures spelled { IfOk result (λ read. (tags : List TagValue) × ((behind : List ℕ) × (BeginsTags bytes.now tags behind × BeginsStart behind read.start (drop read.used bytes.now)))) }
+/// How many bytes stand before the moves of a record, of which the start takes the place of the standard one.
+pub(crate) fn begin(bytes: &[u8], start: &mut Numbered) -> Result<usize, Breach>
+    requires standard { start.old ≡ standard_start }
+    ensures begun { IfOk result (λ used. (tags : List TagValue) (game : GameTree) → IsRecord bytes.now tags game → IsBehind game start.new 0 (drop used bytes.now)) }
+    ensures starts { IfOk result (λ used. (tags : List TagValue) (game : GameTree) (r : IsSpelled bytes.now tags game) → (r.start ≡ start.new) × (r.behind_start ≡ drop used bytes.now)) }
+    ensures used { IfOk result (λ used. used ≤ length bytes.now) }
+    ensures spelled { IfOk result (λ used. (tags : List TagValue) × ((behind : List ℕ) × (BeginsTags bytes.now tags behind × BeginsStart behind start.new (drop used bytes.now)))) }
     ensures fault { IfErr result (λ _. IsSomeRecord bytes.now → ⊥) }
     ensures first { IfErr result (Tells (Breaks bytes.now)) }
 {
     let used = tags_len(bytes)?;
-    let read = read_start(bytes.split_at(used).1)?;
-    Ok(StartRead {
-        start: read.start,
-        used: used + read.used,
-    })
+    let read = read_start(bytes.split_at(used).1, start)?;
+    Ok(used + read)
 }
 
 // A move of the main line, and the bytes behind it.

@@ -1,5 +1,5 @@
 -- The numbered squares after a legal move are those of the men after it, the kings' first.
-use Rattle.move_codec.proofs.Words.{◌≡◌, ℕ, ◌<◌, false, cond, eqb, List, Option, Some, None, length, slice_get, set, inl, inr, refl, sym, ◌∙◌, ap, subst, false≢true, eqb_tells, none-some, get_or_from_slice_get, set-get_or, Colour, White, Black, Kind, King, Rook, Pawn, Man, Move, Men, man_at, put, man, other, is_man, is_of, Setup, Effect, Plain, Double, Passing, Castle, Null, rook_home, rook_target, Sound, Case, arriving, moved, board_after, effect_of, passed_square, Step, last_rank, rank_of, Goes, length-put, on_board, put-other, put-same, relocate, case-on_board, arriving-lands, castle-apart, castle-crossed, castle-rook_goes, castle-squares, lands, lands_as, moved-other, plain-no_king, plain-no_own, Numbers, AreNumbers, number_of, squares_of, went, without, movers_after, capture_square, numbers_by, numbers_after}
+use Rattle.move_codec.proofs.Words.{◌≡◌, ℕ, ◌<◌, false, cond, eqb, List, Option, Some, None, length, slice_get, set, inl, inr, refl, sym, ◌∙◌, ap, eqb_tells, get_or_from_slice_get, set-get_or, Colour, White, Black, Kind, King, Rook, Pawn, Man, Move, Men, man_at, put, man, other, is_man, is_of, Setup, Effect, Passing, Castle, Null, rook_home, rook_target, Sound, Case, moved, board_after, effect_of, passed_square, Step, Going, going, passed-stands, length-moved, Goes, length-put, on_board, put-other, put-same, relocate, castle-crossed, castle-rook_goes, castle-squares, Numbers, AreNumbers, number_of, squares_of, went, without, movers_after, capture_square, numbers_by, numbers_after}
 use Rattle.move_codec.proofs.Lists.{at, found}
 use Rattle.move_codec.proofs.Boards.{Numbering, are_numbers, enemy_man, no_own, numbering_of, own_man, own_of_enemy}
 use Rattle.move_codec.proofs.Tracking.{Tracked, Tracked-like, Tracked-went, Tracked-without, Tracks-other, idle, there}
@@ -30,12 +30,9 @@ goes men a b c k j own enemy g (mine, theirs) =
     let fewer = Tracked-without (other c) (at (man_at men) a None) enemy (theirs.0, left) b x (enemy_man c j) in
     (Tracked-like (went own a b) gone relocated, Tracked-like (without enemy b) fewer relocated)
 
--- to an empty square: none is taken
-goes_free : (men : Men) (a b : ℕ) (c : Colour) (k j : Kind) (own enemy : List ℕ) → Goes men a b c k j → man_at men b ≡ None → Sides c men own enemy
-    → Sides c (relocate men a b (Some (man c j))) (went own a b) enemy
-goes_free men a b c k j own enemy g empty sides =
-    subst (λ l. Sides c (relocate men a b (Some (man c j))) (went own a b) l) (idle (other c) (man_at men) enemy sides.1 b None (ap (is_of (other c)) empty))
-    (goes men a b c k j own enemy g sides)
+-- none is taken from an empty square
+none-taken : (men : Men) (c : Colour) (own enemy : List ℕ) (s : ℕ) → man_at men s ≡ None → Sides c men own enemy → without enemy s ≡ enemy
+none-taken men c own enemy s empty sides = idle (other c) (man_at men) enemy sides.1 s None (ap (is_of (other c)) empty)
 
 -- a man of the other side is taken away
 taken : (men : Men) (s : ℕ) (c : Colour) (k : Kind) (own enemy : List ℕ) → length men ≡ 64 → man_at men s ≡ Some (man (other c) k) → Sides c men own enemy
@@ -47,47 +44,22 @@ taken men s c k own enemy size stands (mine, theirs) =
 
 -- Each effect of a legal move
 
-module _ (p : Setup) (m : Move) (own enemy : List ℕ) (sound : Sound p) (target : m.to < 64) (before : Sides p.side p.board own enemy) where
-  size_moved : length (moved p m) ≡ 64
-  size_moved = length-put (put p.board m.from None) m.to (arriving p m m.promo) (length-put p.board m.from None sound.squares)
-
-  none_taken : man_at p.board m.to ≡ None → without enemy m.to ≡ enemy
-  none_taken empty = idle (other p.side) (man_at p.board) enemy before.1 m.to None (ap (is_of (other p.side)) empty)
-
-  -- a man that stays what it is goes to an empty square
-  moved_free : (k : Kind) → man_at p.board m.from ≡ Some (man p.side k) → m.promo ≡ None → man_at p.board m.to ≡ None
-      → Sides p.side (moved p m) (went own m.from m.to) enemy
-  moved_free k stands promo empty =
-      let free : Goes p.board m.from m.to p.side k k =
-      record { squares = sound.squares; from = stands; target = target; no_own = λ i h. cc empty; no_king = λ d h. cc empty; same_king = refl } in
-      rw (promo, stands) (goes_free p.board m.from m.to p.side k k own enemy free empty before)
+module _ (p : Setup) (m : Move) (own enemy : List ℕ) (sound : Sound p) (before : Sides p.side p.board own enemy) where
+  gone : Going p m → Sides p.side (moved p m) (went own m.from m.to) (without enemy m.to)
+  gone g = rw g.brings (goes p.board m.from m.to p.side g.kind g.becomes own enemy g.goes before)
 
   both : (e : Effect) → effect_of p m ≡ e → Case p m e → Sides p.side (board_after p m e) (movers_after p.side m e own) (without enemy (capture_square m e))
-  both Plain is c =
-      let plain : Goes p.board m.from m.to p.side c.kind (lands_as c.kind m.promo) = record {
-        squares = sound.squares;
-        from = c.stands;
-        target = target;
-        no_own = plain-no_own p m c.kind c.goes;
-        no_king = plain-no_king p m c.kind sound c.stands c.goes;
-        same_king = (lands c.kind (eqb (rank_of m.to) (last_rank p.side)) m.promo c.promotes).same_king;
-      } in
-      rw (arriving-lands p m c.kind m.promo c.stands) (goes p.board m.from m.to p.side c.kind (lands_as c.kind m.promo) own enemy plain before)
-  both Double is c = rw (none_taken c.target) (moved_free Pawn c.stands c.promo c.target)
   both Passing is c =
-      -- the passed pawn is taken away too
-      let s : ℕ = passed_square m in
-      let from : s ≡ m.from → ⊥ = λ e.
-      false≢true (sym (own_of_enemy p.side Pawn) ∙ ap (is_of p.side) (sym c.passed ∙ ap (man_at p.board) e ∙ c.stands) ∙ own_man p.side Pawn) in
-      let to : s ≡ m.to → ⊥ = λ e. none-some (man (other p.side) Pawn) (sym c.empty ∙ sym (ap (man_at p.board) e) ∙ c.passed) in
-      taken (moved p m) s p.side Pawn (went own m.from m.to) enemy size_moved (moved-other p m s from to ∙ c.passed) (moved_free Pawn c.stands c.promo c.empty)
+      -- the passed pawn is taken away, and none on the target
+      taken (moved p m) (passed_square m) p.side Pawn (went own m.from m.to) enemy (length-moved p m sound.squares) (passed-stands p m c)
+      (rw (none-taken p.board p.side own enemy m.to c.empty before) at (gone (going p m Passing sound is c (λ n. cc))))
   both (Castle wing) is c =
       -- the rook goes too, to a square that the king has crossed
       let at = castle-squares p m wing c.stands is in
-      let empty : man_at p.board m.to ≡ None = ap (man_at p.board) at.to ∙ (castle-apart p.board p.side wing c.empty).king_to in
-      rw (none_taken empty)
-      (goes_free (moved p m) (rook_home p.side wing) (rook_target p.side wing) p.side Rook Rook (went own m.from m.to) enemy
-      (castle-rook_goes p m wing sound size_moved at c) (castle-crossed p m wing at c) (moved_free King c.stands c.promo empty))
+      let king = gone (going p m (Castle wing) sound is c (λ n. cc)) in
+      rw (none-taken (moved p m) p.side (went own m.from m.to) (without enemy m.to) (rook_target p.side wing) (castle-crossed p m wing at c) king) at
+      (goes (moved p m) (rook_home p.side wing) (rook_target p.side wing) p.side Rook Rook (went own m.from m.to) (without enemy m.to)
+      (castle-rook_goes p m wing sound (length-moved p m sound.squares) at c) king)
   both Null is c =
       -- the king keeps his square
       let n : ℕ = number_of own m.from in
@@ -95,6 +67,7 @@ module _ (p : Setup) (m : Move) (own enemy : List ℕ) (sound : Sound p) (target
       let stays : set own n m.from ≡ own = sym (ap (set own n) (get_or_from_slice_get own n m.from m.from here)) ∙ set-get_or own n m.from in
       let free : is_of (other p.side) (man_at p.board m.from) ≡ false = ap (is_of (other p.side)) c.stands ∙ enemy_man p.side King in
       rw (c.stays, stays, idle (other p.side) (man_at p.board) enemy before.1 m.from None free) before
+  both e is c = gone (going p m e sound is c (λ n. cc))
 
 -- A side's numbered squares and where its king stands, as both definitions say it
 
@@ -133,4 +106,4 @@ AreNumbers-step p m q numbers sound step h =
     let e : Effect = effect_of p m in
     let side : (c : Colour) → Tracked c (man_at p.board) (squares_of c numbers) = λ c. tracked p.board c (squares_of c numbers) (numbering_of p.board numbers h c) in
     rw step.becomes (both_lists (board_after p m e) m e numbers p.side
-    (both p m (squares_of p.side numbers) (squares_of (other p.side) numbers) sound (case-on_board p m e sound refl step.allowed) (side p.side, side (other p.side)) e refl step.allowed))
+    (both p m (squares_of p.side numbers) (squares_of (other p.side) numbers) sound (side p.side, side (other p.side)) e refl step.allowed))

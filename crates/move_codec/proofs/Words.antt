@@ -9,8 +9,8 @@ pub use Rattle.cell_core.specs.declared.man.Kind.TheVariants.{King, Queen, Rook,
 pub use Rattle.cell_core.specs.declared.man.Man.{Man}
 pub use Rattle.cell_core.specs.declared.step.Move.{Move}
 pub use Rattle.chess_laws.proofs.Boards.{man-kind, on_board, Goes, length-put, put-other, put-same, relocate}
-pub use Rattle.chess_laws.proofs.Following.{case-on_board}
-pub use Rattle.chess_laws.proofs.Keeping.{castle-squares, arriving-lands, castle-apart, castle-crossed, castle-rook_goes, lands, lands_as, moved-other, plain-no_king, plain-no_own}
+pub use Rattle.chess_laws.proofs.Following.{Going, going, passed-stands}
+pub use Rattle.chess_laws.proofs.Keeping.{castle-squares, castle-crossed, castle-rook_goes, length-moved}
 pub use Rattle.chess_laws.proofs.Kings.{is_man-true, king-stands, is_man-Some, king-only}
 pub use Rattle.chess_laws.specs.Castling.{king_home, king_target, rook_home, rook_target}
 pub use Rattle.chess_laws.specs.Geometry.{shift, forward, file_of, rank_of, Offset, Leaps, Runs, Walk, king_steps, knight_steps, rook_steps, bishop_steps, pawn_captures}

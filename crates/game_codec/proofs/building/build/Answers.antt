@@ -1,5 +1,6 @@
 use Rattle.std.proofs.Common.{◌≡◌, ℕ, List, [], ◌-◌, drop, length, sym, ap, ◌∙◌, subst, arith}
 use Rattle.std.proofs.lemmas.List.{length-drop, nil_from_length}
+use Rattle.game_codec.specs.Place.{beginning}
 use Rattle.game_codec.proofs.DealLaws.{same-length-drop, tree-of}
 use Rattle.game_codec.proofs.LeadLaws.{leads-all}
 use Rattle.game_codec.proofs.building.build.Goals as goal
@@ -14,10 +15,11 @@ returns c =
     let none : drop c.in_ok-taken.taken.texts c.split_at.result.1.now ≡ [] =
     nil_from_length (drop c.in_ok-taken.taken.texts c.split_at.result.1.now) (omega (arith, c.if-taken-texts.false, length-drop c.in_ok-taken.taken.texts c.split_at.result.1.now))
     in
+    let place = c.beginning-place.ensures.beginning ∙ ap (beginning 0) c.copy.ensures.same in
     record {
       ok = tree-of c.args.start.now c.beginning-place.result c.args.bytes.now c.split_at.result.1.now c.in_ok-taken.taken.moves c.in_ok-taken.taken.texts c.new-builder.result c.build_line.new.builder c.in_ok-branch.branch
-          c.beginning-place.ensures.beginning c.new-builder.ensures.opening c.in_ok-taken.ensures.built behind none c.in_ok-branch.ensures.meant;
+          place c.new-builder.ensures.opening c.in_ok-taken.ensures.built behind none c.in_ok-branch.ensures.meant;
       last = c.position.ensures.position
           ∙ leads-all c.args.start.now c.beginning-place.result c.build_line.new.place c.new-builder.result c.build_line.new.builder c.in_ok-branch.branch.line
-          c.beginning-place.ensures.beginning c.new-builder.ensures.opening c.in_ok-taken.ensures.leads c.in_ok-branch.ensures.line;
+          place c.new-builder.ensures.opening c.in_ok-taken.ensures.leads c.in_ok-branch.ensures.line;
     }

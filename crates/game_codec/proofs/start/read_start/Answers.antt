@@ -19,6 +19,6 @@ returns-else-flags-eq0-clause-ok c =
     let bytes = c.args.bytes.now in
     let set : get_or bytes 0 0 % 2 ≡ 1 = let clear = c.if-flags-eq0.false in omega arith in
     IfOk-weaker c.read_own_start.result _ _
-    (λ read h.
-    own_start bytes _ (get_or bytes 0 0) read.used read.start (flags_first bytes c.in-len1-up.len_at_least) (h (get_or bytes 0 0) set))
+    (λ used h.
+    own_start bytes _ (get_or bytes 0 0) used c.read_own_start.new.start (flags_first bytes c.in-len1-up.len_at_least) (h (get_or bytes 0 0) set))
     c.read_own_start.ensures.ok

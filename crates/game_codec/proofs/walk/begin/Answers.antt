@@ -25,8 +25,8 @@ returns-in_err-read-clause-fault c =
 pub returns-clause-begun : goal.returns-clause-begun
 returns-clause-begun c =
     let tags = c.in_ok-used.ensures.ok in
-    let start = c.in_ok-read.read.start in
-    let used = c.in_ok-read.read.used in
+    let start = c.read_start.new.start in
+    let used = c.in_ok-read.read in
     let then = subst (λ (l : List ℕ). BeginsStart l start (drop used l)) c.split_at.ensures.back c.in_ok-read.ensures.ok in
     begun c.args.bytes.now tags.0 start c.in_ok-used.used used tags.1 then
 
@@ -47,16 +47,16 @@ returns-in_err-read-clause-first c =
 pub returns-clause-starts : goal.returns-clause-starts
 returns-clause-starts c =
     let tags = c.in_ok-used.ensures.ok in
-    let start = c.in_ok-read.read.start in
-    let used = c.in_ok-read.read.used in
+    let start = c.read_start.new.start in
+    let used = c.in_ok-read.read in
     let then = subst (λ (l : List ℕ). BeginsStart l start (drop used l)) c.split_at.ensures.back c.in_ok-read.ensures.ok in
     starts_so c.args.bytes.now tags.0 start c.in_ok-used.used used tags.1 then
 
 pub returns-clause-spelled : goal.returns-clause-spelled
 returns-clause-spelled c =
     let tags = c.in_ok-used.ensures.ok in
-    let start = c.in_ok-read.read.start in
-    let used = c.in_ok-read.read.used in
+    let start = c.read_start.new.start in
+    let used = c.in_ok-read.read in
     let behind = drop c.in_ok-used.used c.args.bytes.now in
     let then = subst (λ (l : List ℕ). BeginsStart l start (drop used l)) c.split_at.ensures.back c.in_ok-read.ensures.ok in
     (tags.0, (behind, (tags.1, subst (BeginsStart behind start) (drop-drop used c.in_ok-used.used c.args.bytes.now) then)))

@@ -1,7 +1,7 @@
 -- The mover's man goes to its target, and what else the move changes follows.
-use Rattle.chess_laws.proofs.Words.{None, Some, King, Pawn, Rook, put, man, other, CastleCase, DoubleCase, PassingCase, PlainCase}
-use Rattle.chess_laws.proofs.Boards.{length-put}
-use Rattle.chess_laws.proofs.Keeping.{arriving-lands, lands_as}
+use Rattle.chess_laws.proofs.Words.{◌≡◌, length, None, Some, King, Pawn, Rook, put, man, other, CastleCase, DoubleCase, PassingCase, PlainCase}
+use Rattle.chess_laws.proofs.Boards.{length-put, relocate}
+use Rattle.chess_laws.proofs.Keeping.{arriving-lands, lands_as, length-moved}
 use Rattle.chess_laws.proofs.left.Left.after.Goals as goal
 
 pub returns-in-Null : goal.returns-in-Null
@@ -27,11 +27,9 @@ returns-in-Passing c =
     let p = c.args.p.now in
     let m = c.args.m.now in
     let case : PassingCase p m = rw c.in-Passing.is at c.requires.allowed in
-    let gone = put p.board m.from None in
-    let new = put gone m.to (Some (man p.side Pawn)) in
-    let squares = length-put gone m.to (Some (man p.side Pawn)) (length-put p.board m.from None c.requires.sound.squares) in
+    let squares = rw (case.promo, case.stands) at (length-moved p m c.requires.sound.squares) in
     rw (c.in-Passing.is, case.promo, case.stands, ← c.passed_square.ensures.square)
-    (c.emptied.ensures p.board new (other p.side) squares
+    (c.emptied.ensures p.board _ (other p.side) squares
     (c.moved-in-Passing.ensures p.board p.board p.side Pawn c.requires.sound.squares (rw (← c.other.ensures.side) c.of-before.ensures)))
 
 pub returns-in-Castle : goal.returns-in-Castle
@@ -39,9 +37,8 @@ returns-in-Castle c =
     let p = c.args.p.now in
     let m = c.args.m.now in
     let case : CastleCase p m c.in-Castle.wing = rw c.in-Castle.is at c.requires.allowed in
-    let gone = put p.board m.from None in
-    let new = put gone m.to (Some (man p.side King)) in
-    let squares = length-put gone m.to (Some (man p.side King)) (length-put p.board m.from None c.requires.sound.squares) in
+    let new = relocate p.board m.from m.to (Some (man p.side King)) in
+    let squares : length new ≡ 64 = rw (case.promo, case.stands) at (length-moved p m c.requires.sound.squares) in
     rw (c.in-Castle.is, case.promo, case.stands, ← c.rook_home.ensures.square, ← c.rook_target.ensures.square)
     (c.entered.ensures p.board (put new c.rook_home.result None) p.side Rook (length-put new c.rook_home.result None squares)
     (c.emptied-in-Castle.ensures p.board new (other p.side) squares

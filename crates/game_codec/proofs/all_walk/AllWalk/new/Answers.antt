@@ -12,9 +12,9 @@ invariant_of-result c =
     let here = c.beginning.ensures.here in
     record {
       few = c.requires.few;
-      within = omega (arith, size, length-drop c.in-Ok.read.used c.args.bytes.now);
+      within = omega (arith, size, length-drop c.in-Ok.used c.args.bytes.now);
       bounded = start_bounded c.beginning.result c.beginning.ensures.ply c.beginning.ensures.alone
-          (omega (arith, size, length-drop c.in-Ok.read.used c.args.bytes.now, c.requires.few));
+          (omega (arith, size, length-drop c.in-Ok.used c.args.bytes.now, c.requires.few));
       follows = λ tags game read.
           let r = to_spelled c.args.bytes.now tags game read in
           let starts = c.in-Ok.ensures.starts tags game r in
