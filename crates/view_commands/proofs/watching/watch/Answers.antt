@@ -1,4 +1,4 @@
-use Rattle.std.proofs.Common.{◌≡◌, ◌+◌, ◌<◌, ℕ, Option, Some, ap, refl, sym, subst, ◌∙◌, arith}
+use Rattle.std.proofs.Common.{◌≡◌, ◌+◌, ◌<◌, ℕ, Option, Some, length, ap, refl, sym, subst, ◌∙◌, arith}
 use Rattle.std.specs.Prelude.{is_some}
 use Rattle.base_files.specs.Seen.{Seen}
 use Rattle.block_store.specs.Placing.{IsEnd}
@@ -155,8 +155,8 @@ returns-clause-stands g c = λ s st right.
     subst (λ (x : Seen). Stands (held_by machine.base (tables_with machine.index c.watch.new.self.watches) machine.seat.filter machine.seat.saved.items) x ((watch_work w number c.args.board.now c.args.side).after s)) (sym c.read_hits.ensures.unchanged)
     (subst (λ (t : State). Stands (held_by machine.base (tables_with machine.index c.watch.new.self.watches) machine.seat.filter machine.seat.saved.items) seen t) (sym (watch_is w s number k c.args.board.now c.args.side of count))
     (watch_stands machine.base machine.index machine.slots.watches c.watch.new.self.watches machine.seat.filter machine.seat.saved.items seen s k c.pack-packed.result slot
-    (exactly c.args.board.now c.args.side) c.in-Ok.hits.items st' (ap (λ (x : Slotted). x.watches) c.in_ok-watch.ensures.watched) shown
-    (c.in-Ok.ensures.hits st'.games s.shared.base st'.told st'.base is) (on_board c.args.board.now c.args.side c.pack-packed.result c.pack-packed.ensures.packed c.pack-packed.ensures.given_back)))
+    (exactly c.args.board.now c.args.side) c.as_slice.result.now st' (ap (λ (x : Slotted). x.watches) c.in_ok-watch.ensures.watched) shown
+    (c.as_slice.ensures.value ∙ c.in-Ok.ensures.hits st'.games s.shared.base st'.told st'.base is) (on_board c.args.board.now c.args.side c.pack-packed.result c.pack-packed.ensures.packed c.pack-packed.ensures.given_back)))
 
 pub returns-clause-right : goal.returns-clause-right
 returns-clause-right g c = λ s st right.
@@ -176,10 +176,10 @@ returns-clause-right g c = λ s st right.
     let is = subst (λ (i : Option Index). IndexesAll i (games_of s)) (sym c.as_ref-index.ensures.value) (indexes_all _ _ s st') in
     let count = slots_count s machine.slots.watches (ap (λ (t : Tables). t.hits) st'.tables) ∙ c.holds.ensures.eight in
     let fits = (subst (λ (h : Holding). Sound h seen) (sym c.machine.view_is) c.requires.sound).fits in
-    let hits = new_hits s (exactly c.args.board.now c.args.side) c.pack-packed.result machine.seat.filter c.in-Ok.hits.items (c.in-Ok.ensures.hits st'.games s.shared.base st'.told st'.base is)
-    (on_board c.args.board.now c.args.side c.pack-packed.result c.pack-packed.ensures.packed c.pack-packed.ensures.given_back) (filter_is st') (c.in-Ok.ensures.number ∙ sym fits.filter) in
+    let hits = new_hits s (exactly c.args.board.now c.args.side) c.pack-packed.result machine.seat.filter c.as_slice.result.now (c.as_slice.ensures.value ∙ c.in-Ok.ensures.hits st'.games s.shared.base st'.told st'.base is)
+    (on_board c.args.board.now c.args.side c.pack-packed.result c.pack-packed.ensures.packed c.pack-packed.ensures.given_back) (filter_is st') (ap length c.as_slice.ensures.value ∙ c.in-Ok.ensures.number ∙ sym fits.filter) in
     right_behind _ w _ _ c.watch.new.views (watch_is w s number k c.args.board.now c.args.side of count)
-    (watch_right _ w s k (machine.slots.first + k) c.pack-packed.result slot (watch_from c.pack-packed.result machine.seat.filter c.in-Ok.hits.items) machine.slots.watches c.watch.new.self.watches
+    (watch_right _ w s k (machine.slots.first + k) c.pack-packed.result slot (watch_from c.pack-packed.result machine.seat.filter c.as_slice.result.now) machine.slots.watches c.watch.new.self.watches
     c.args.views.now c.watch.new.views right shown (omega (arith, below, count)) (omega (arith, below, c.holds.ensures.eight)) at hits
     (ap (λ (x : Slotted). x.watches) c.in_ok-watch.ensures.watched) c.in_ok-watch.ensures.here c.watch.ensures.others)
 
@@ -196,8 +196,8 @@ returns-clause-told g c = λ s st right.
     let less = slot_counts w number k of below in
     let is = subst (λ (i : Option Index). IndexesAll i (games_of s)) (sym c.as_ref-index.ensures.value) (indexes_all _ _ s st') in
     let fits = (subst (λ (h : Holding). Sound h seen) (sym c.machine.view_is) c.requires.sound).fits in
-    let hits = new_hits s (exactly c.args.board.now c.args.side) c.pack-packed.result machine.seat.filter c.in-Ok.hits.items (c.in-Ok.ensures.hits st'.games s.shared.base st'.told st'.base is)
-    (on_board c.args.board.now c.args.side c.pack-packed.result c.pack-packed.ensures.packed c.pack-packed.ensures.given_back) (filter_is st') (c.in-Ok.ensures.number ∙ sym fits.filter) in
+    let hits = new_hits s (exactly c.args.board.now c.args.side) c.pack-packed.result machine.seat.filter c.as_slice.result.now (c.as_slice.ensures.value ∙ c.in-Ok.ensures.hits st'.games s.shared.base st'.told st'.base is)
+    (on_board c.args.board.now c.args.side c.pack-packed.result c.pack-packed.ensures.packed c.pack-packed.ensures.given_back) (filter_is st') (ap length c.as_slice.ensures.value ∙ c.in-Ok.ensures.number ∙ sym fits.filter) in
     watch_told _ w number (machine.slots.first + k) _ (shown_hits s (packed_of c.args.board.now c.args.side)) c.args.views.now c.watch.new.views less (omega (arith, of.slot less, c.machine.invariant.1.0))
     (hits ∙ ap (shown_hits s) c.pack-packed.ensures.packed) c.watch.ensures.told c.watch.ensures.others
 
@@ -221,8 +221,9 @@ returns-clause-sound g c =
       fits = sound.fits;
       tables = record {
         index = sound.tables.index;
-        hits = fits_with machine.slots.watches c.watch.new.self.watches c.slot_of-k.result (Some (watch_from c.pack-packed.result machine.seat.filter c.in-Ok.hits.items)) _
-            (ap (λ (x : Slotted). x.watches) c.in_ok-watch.ensures.watched) (from_count c.pack-packed.result machine.seat.filter c.in-Ok.hits.items (c.in-Ok.ensures.number ∙ sym sound.fits.filter) ∙ c.in-Ok.ensures.number)
+        hits = fits_with machine.slots.watches c.watch.new.self.watches c.slot_of-k.result (Some (watch_from c.pack-packed.result machine.seat.filter c.as_slice.result.now)) _
+            (ap (λ (x : Slotted). x.watches) c.in_ok-watch.ensures.watched) (from_count c.pack-packed.result machine.seat.filter c.as_slice.result.now (ap length c.as_slice.ensures.value ∙ c.in-Ok.ensures.number ∙ sym sound.fits.filter)
+            ∙ ap length c.as_slice.ensures.value ∙ c.in-Ok.ensures.number)
             sound.tables.hits;
       };
       base = sound.base;
