@@ -1,5 +1,5 @@
 -- The squares of a set on two files, counted by one product.
-use Rattle.std.proofs.Common.{◌≡◌, ℕ, zero, suc, ◌+◌, ◌*◌, ◌/◌, ◌%◌, ◌^◌, ◌<◌, ◌≤◌, ◌==◌, ◌&&◌, eqb, Bool, true, false, refl, sym, ap, ◌∙◌, arith, inl, inr}
+use Rattle.std.proofs.Common.{◌≡◌, ℕ, zero, suc, ◌+◌, ◌*◌, ◌/◌, ◌%◌, ◌^◌, ◌<◌, ◌≤◌, ◌&&◌, eqb, Bool, true, false, refl, sym, ap, ◌∙◌, arith, inl, inr}
 use Rattle.std.specs.Int.{bit_at}
 use Rattle.std.specs.Int.RustNames.{bit_and}
 use Rattle.std.specs.List.{list_all, range_with_len}
@@ -7,7 +7,7 @@ use Rattle.std.proofs.lemmas.Bool.{agree_below, agree_below_at, and_parts, cases
 use Rattle.std.proofs.lemmas.Nat.{and_le_r, shr-shr}
 use Rattle.std.proofs.lemmas.Nat.Bits.{bit_at-lt, bit_at_and}
 use Rattle.chess_laws.specs.Geometry.{square}
-use Rattle.pos_search.specs.Columns.{on_file, same_number, same_numbers}
+use Rattle.pos_search.specs.Columns.{on_file, same_number, same_numbers, same_pair, same_pairs}
 
 -- ---- the bytes of two files
 
@@ -107,7 +107,8 @@ on_file-few set file zero = omega arith
 on_file-few set file (suc n) = omega (arith, on_file-few set file n, bit_at-lt set (square file n))
 
 -- Two sets with the same sum have as many on both files.
-pub pair-same : (a b file : ℕ) → eqb (on_file a file 8 + 16 * on_file a (file + 4) 8) (on_file b file 8 + 16 * on_file b (file + 4) 8) ≡ (same_number a b file && same_number a b (file + 4))
+pub pair-same : (a b file : ℕ) → eqb (on_file a file 8 + 16 * on_file a (file + 4) 8) (on_file b file 8 + 16 * on_file b (file + 4) 8) ≡ same_pair a b file
+unfolding same_pair
 pair-same a b file = by (on_file a file 8) (on_file a (file + 4) 8) (on_file b file 8) (on_file b (file + 4) 8) (on_file-few a file 8) (on_file-few b file 8)
   where
     by : (p q r s : ℕ) → p ≤ 8 → r ≤ 8 → eqb (p + 16 * q) (r + 16 * s) ≡ (eqb p r && eqb q s)
@@ -150,7 +151,18 @@ eight-tests t = by (t 0) (t 1) (t 2) (t 3) (t 4) (t 5) (t 6) (t 7)
     by true true true true true true true false = refl
     by true true true true true true true true = refl
 
+-- The test of each of the four places, as a program makes it.
+pub four_tests : (t : ℕ → Bool) → (t 0 && t 1 && t 2 && t 3) ≡ list_all t (range_with_len 0 4)
+four_tests t = by (t 0) (t 1) (t 2) (t 3)
+  where
+    by : (a b c d : Bool) → (a && b && c && d) ≡ (a && (b && (c && (d && true))))
+    by false b c d = refl
+    by true false c d = refl
+    by true true false d = refl
+    by true true true false = refl
+    by true true true true = refl
+
 -- Two sets have as many on each file if they have as many on each pair of files.
-pub pairs_told : (a b : ℕ) → ((same_number a b 0 && same_number a b 4) && (same_number a b 1 && same_number a b 5) && (same_number a b 2 && same_number a b 6) && (same_number a b 3 && same_number a b 7)) ≡ same_numbers a b
-unfolding same_numbers
-pairs_told a b = eight-tests (same_number a b)
+pub pairs-told : (a b : ℕ) → same_pairs a b ≡ same_numbers a b
+unfolding same_pair same_pairs same_numbers
+pairs-told a b = sym (four_tests (λ file. same_number a b file && same_number a b (file + 4))) ∙ eight-tests (same_number a b)

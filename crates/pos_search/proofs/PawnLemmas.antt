@@ -1,12 +1,9 @@
 -- The pawns of two boards as sets of squares.
-use Rattle.std.proofs.Common.{◌≡◌, ℕ, zero, suc, ◌+◌, ◌*◌, ◌/◌, ◌^◌, ◌<◌, ◌≤◌, ◌==◌, ◌&&◌, eqb, Bool, true, false, cond, length, Option, Some, None, refl, sym, ap, ◌∙◌, arith, inl, inr}
+use Rattle.std.proofs.Common.{◌≡◌, ℕ, zero, suc, ◌+◌, ◌<◌, ◌==◌, ◌&&◌, eqb, Bool, true, false, cond, length, Option, Some, None, refl, sym, ap, ◌∙◌, arith, inl, inr}
 use Rattle.std.specs.Int.{bit_at}
-use Rattle.std.specs.Int.RustNames.{bit_and}
 use Rattle.std.specs.Option.{option_eq}
-use Rattle.std.proofs.lemmas.Bool.{agree_below_at, and_parts, cases_Bool, cases_lt, eq-eqb, eqb-true, false≢true}
+use Rattle.std.proofs.lemmas.Bool.{and_parts, cases_Bool, cases_lt, eq-eqb, eqb-true, false≢true}
 use Rattle.std.proofs.lemmas.List.{get_or_past}
-use Rattle.std.proofs.lemmas.Nat.{shr-shr}
-use Rattle.std.proofs.lemmas.Nat.Bits.{bit_at-lt, bit_at_and}
 use Rattle.cell_core.specs.declared.man.Colour.{Colour}
 use Rattle.cell_core.specs.declared.man.Colour.TheVariants.{White, Black}
 use Rattle.cell_core.specs.declared.man.Kind.TheVariants.{Pawn}
@@ -16,7 +13,7 @@ use Rattle.cell_core.specs.Man.{is_man, same_colour}
 use Rattle.cell_core.specs.Sets.{set_of}
 use Rattle.cell_core.proofs.Squares.{bit-set_of, set-is}
 use Rattle.chess_laws.specs.Geometry.{square}
-use Rattle.sig_index.proofs.Ranges.{all_each, all_from, all_not}
+use Rattle.sig_index.proofs.Ranges.{all_each, all_from}
 use Rattle.pos_search.specs.Columns.{on_file, same_number, same_numbers}
 use Rattle.pos_search.specs.Matching.{pawn_on, pawns_below, same_files, same_pawn, same_pawns}
 use Rattle.pos_search.proofs.MatchLemmas.{files_all, files_each, is_side, pawns_all, same_side, side_is}

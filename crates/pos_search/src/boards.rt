@@ -1,10 +1,10 @@
 //! What two boards have in common.
-ghost use Rattle.std.specs.Prelude.{◌≡◌, ◌<◌, ◌+◌, ◌*◌, ◌&&◌};
+ghost use Rattle.std.specs.Prelude.{◌≡◌, ◌<◌, ◌+◌, ◌*◌};
 ghost use Rattle.cell_core.specs.Board.{same_men};
 ghost use Rattle.cell_core.specs.Man.{is_man};
 ghost use Rattle.chess_laws.specs.Counts.{is_home};
 ghost use Rattle.sig_index.specs.Homes.{home_set};
-ghost use Rattle.pos_search.specs.Columns.{on_file, same_number, same_numbers};
+ghost use Rattle.pos_search.specs.Columns.{on_file, same_numbers, same_pair, same_pairs};
 ghost use Rattle.pos_search.specs.Matching.{same_files, same_pawns};
 
 use cell_core::{Board, Colour, Kind, Man, Square};
@@ -84,11 +84,11 @@ fn same_numbers(a: u64, b: u64) -> bool
     same_pairs(a, b)
 }
 
-// The same by four pairs of files.
+// The same by pairs of files.
 #[inline(always)]
-#[tactic(auto, using(crate::proofs::ColumnLemmas::pairs_told))]
+#[tactic(auto, using(crate::proofs::ColumnLemmas::four_tests), unfolding(crate::specs::Columns::same_pairs))]
 fn same_pairs(a: u64, b: u64) -> bool
-    ensures { result ≡ same_numbers a b }
+    ensures { result ≡ same_pairs a b }
 {
     same_pair(a, b, 0) && same_pair(a, b, 1) && same_pair(a, b, 2) && same_pair(a, b, 3)
 }
@@ -97,13 +97,13 @@ fn same_pairs(a: u64, b: u64) -> bool
 #[inline(always)]
 fn same_pair(a: u64, b: u64, file: u8) -> bool
     requires { file < 4 }
-    ensures { result ≡ (same_number a b file && same_number a b (file + 4)) }
+    ensures { result ≡ same_pair a b file }
 {
     pair(a, file) == pair(b, file)
 }
 
-// How many squares of a set stand on this file, and sixteen times as many as on the fourth behind it: each rank has a byte, and a
-// product with ones in all bytes has the sum of them in its highest.
+// How many squares of a set stand on this file, and sixteen times as many as on the fourth behind it. Each rank has a byte, and the
+// highest byte of the product is the sum of all eight.
 #[inline(always)]
 fn pair(set: u64, file: u8) -> u64
     requires { file < 4 }
