@@ -1,5 +1,5 @@
 //! Passing what stands between the moves of a main line, by its marks alone.
-ghost use Rattle.std.specs.Prelude.{◌≡◌, ◌+◌, ◌<◌, ◌≤◌, ℕ, List, [], ◌∷◌, length, drop, IfOk, IfErr, MatchOption};
+ghost use Rattle.std.specs.Prelude.{◌≡◌, ◌+◌, ◌<◌, ◌≤◌, ℕ, List, [], ◌∷◌, length, drop, IsTrue, IfOk, IfErr, MatchOption};
 ghost use Rattle.cell_core.specs.declared.step.Move.{Move};
 ghost use Rattle.chess_laws.specs.declared.setup.Setup.{Setup};
 ghost use Rattle.move_codec.specs.Numbers.{Numbered};
@@ -17,9 +17,37 @@ pub(crate) enum Front {
     Passes(usize),
 }
 
-/// How many bytes stand before the next move of a main line, or `None` if the game ends.
+/// How many bytes stand before the next move of a main line, or `None` if the game ends. Mostly a move stands at the front.
 #[inline(always)]
 pub(crate) fn before_move(bytes: &[u8]) -> Result<Option<usize>, Breach>
+    ensures due { IfOk result (λ found. MatchOption found
+        ((here : Numbered) (moves : List Move) → GoesOn here moves bytes.now → moves ≡ [])
+        (λ used. (used ≤ length bytes.now) × (IsMoveDue (drop used bytes.now)
+        × ((here : Numbered) (moves : List Move) → GoesOn here moves bytes.now → GoesOn here moves (drop used bytes.now))))) }
+    ensures fault { IfErr result (λ _. (here : Numbered) (moves : List Move) → GoesOn here moves bytes.now → ⊥) }
+    ensures met { IfErr result (λ breach. (here : Setup) → MetIn here bytes.now breach) }
+{
+    if is_move(bytes) {
+        Ok(Some(0))
+    } else {
+        pass_marks(bytes)
+    }
+}
+
+// Whether a move stands at the front: a byte that is no mark.
+#[inline(always)]
+fn is_move(bytes: &[u8]) -> bool
+    ensures due { IsTrue result → IsMoveDue bytes.now }
+{
+    match bytes {
+        [] => false,
+        [byte, ..] => *byte < 11 || 15 < *byte,
+    }
+}
+
+// The same wherever a mark may stand at the front.
+#[inline(never)]
+fn pass_marks(bytes: &[u8]) -> Result<Option<usize>, Breach>
     ensures due { IfOk result (λ found. MatchOption found
         ((here : Numbered) (moves : List Move) → GoesOn here moves bytes.now → moves ≡ [])
         (λ used. (used ≤ length bytes.now) × (IsMoveDue (drop used bytes.now)
@@ -38,7 +66,6 @@ pub(crate) fn before_move(bytes: &[u8]) -> Result<Option<usize>, Breach>
 }
 
 // What stands at the front of a main line.
-#[inline(always)]
 fn at_front(bytes: &[u8]) -> Result<Front, Breach>
     ensures front { IfOk result (IsFront bytes.now) }
     ensures fault { IfErr result (λ _. (here : Numbered) (moves : List Move) → GoesOn here moves bytes.now → ⊥) }
@@ -54,7 +81,6 @@ fn at_front(bytes: &[u8]) -> Result<Front, Breach>
 }
 
 // What stands at the front of a main line, by its first byte and those behind it. A NAG is passed with its number.
-#[inline(always)]
 fn front_of(byte: u8, behind: &[u8]) -> Result<Front, Breach>
     ensures front { IfOk result (IsFront (byte ∷ behind.now)) }
     ensures fault { IfErr result (λ _. (here : Numbered) (moves : List Move) → GoesOn here moves (byte ∷ behind.now) → ⊥) }

@@ -2,9 +2,9 @@
 ghost use Rattle.std.specs.Prelude.{◌≡◌, ◌<◌, None, Some, length, slice_get, slice_index_or, slice_set};
 ghost use Rattle.game_filter.specs.Search.{entry_after, searched};
 ghost use Rattle.sig_index.specs.Games.{head_in, name_in, plies_in};
-ghost use Rattle.head_search.specs.Matching.{firsts_of, head_matches, name_item, names_match, numbers_match, player_item};
+ghost use Rattle.head_search.specs.Matching.{deleted_item, firsts_of, head_matches, name_item, names_match, numbers_match, player_item};
 
-use crate::matching::{begins, deleted_holds, eco_holds, mark_holds, result_holds, span_holds};
+use crate::matching::{begins, eco_holds, mark_holds, result_holds, span_holds};
 use cell_core::Text;
 use game_filter::{Filter, Op};
 use sig_index::{Games, HeadName, HeadQuery};
@@ -70,13 +70,25 @@ fn numbers_fit<G: Games>(games: &G, i: u32, q: &HeadQuery) -> bool
     requires game { i < length (G.sigs games.now) }
     ensures { result ≡ numbers_match (head_in (G.heads games.now) i) q.now }
 {
-    deleted_holds(q.deleted, games.is_deleted(i))
+    deleted_fits(games, i, q.deleted)
         && mark_holds(q.mark, games.marks(i))
         && result_holds(q.result, games.outcome(i))
         && span_holds(&q.year, games.date(i).year)
         && span_holds(&q.welo, games.white_rating(i).value)
         && span_holds(&q.belo, games.black_rating(i).value)
         && eco_holds(&q.eco, games.eco(i))
+}
+
+// Whether the item of the deleted mark holds. The mark is looked up only if it is asked for.
+#[tactic(auto, unfolding(crate::specs::Matching::deleted_item))]
+fn deleted_fits<G: Games>(games: &G, i: u32, asked: Option<bool>) -> bool
+    requires game { i < length (G.sigs games.now) }
+    ensures { result ≡ deleted_item asked (head_in (G.heads games.now) i).deleted }
+{
+    match asked {
+        Some(yes) => games.is_deleted(i) == yes,
+        None => true,
+    }
 }
 
 // Whether all items of names of a game hold.

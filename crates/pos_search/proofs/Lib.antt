@@ -2,6 +2,7 @@ pub mod Words
 pub mod HomeSets
 pub mod MatchLemmas
 pub mod PawnLemmas
+pub mod ColumnLemmas
 pub mod FollowLemmas
 pub mod WalkLemmas
 pub mod SearchLemmas

@@ -1,12 +1,9 @@
 -- The pawns of two boards as sets of squares.
-use Rattle.std.proofs.Common.{◌≡◌, ℕ, zero, suc, ◌+◌, ◌*◌, ◌/◌, ◌^◌, ◌<◌, ◌≤◌, ◌==◌, ◌&&◌, eqb, Bool, true, false, cond, length, Option, Some, None, refl, sym, ap, ◌∙◌, arith, inl, inr}
+use Rattle.std.proofs.Common.{◌≡◌, ℕ, zero, suc, ◌+◌, ◌<◌, ◌==◌, ◌&&◌, eqb, Bool, true, false, cond, length, Option, Some, None, refl, sym, ap, ◌∙◌, arith, inl, inr}
 use Rattle.std.specs.Int.{bit_at}
-use Rattle.std.specs.Int.RustNames.{bit_and}
 use Rattle.std.specs.Option.{option_eq}
-use Rattle.std.proofs.lemmas.Bool.{agree_below_at, and_parts, cases_Bool, cases_lt, eq-eqb, eqb-true, false≢true}
+use Rattle.std.proofs.lemmas.Bool.{and_parts, cases_Bool, cases_lt, eq-eqb, eqb-true, false≢true}
 use Rattle.std.proofs.lemmas.List.{get_or_past}
-use Rattle.std.proofs.lemmas.Nat.{shr-shr}
-use Rattle.std.proofs.lemmas.Nat.Bits.{bit_at-lt, bit_at_and}
 use Rattle.cell_core.specs.declared.man.Colour.{Colour}
 use Rattle.cell_core.specs.declared.man.Colour.TheVariants.{White, Black}
 use Rattle.cell_core.specs.declared.man.Kind.TheVariants.{Pawn}
@@ -16,36 +13,12 @@ use Rattle.cell_core.specs.Man.{is_man, same_colour}
 use Rattle.cell_core.specs.Sets.{set_of}
 use Rattle.cell_core.proofs.Squares.{bit-set_of, set-is}
 use Rattle.chess_laws.specs.Geometry.{square}
-use Rattle.sig_index.proofs.Ranges.{all_each, all_from, all_not}
+use Rattle.sig_index.proofs.Ranges.{all_each, all_from}
 use Rattle.pos_search.specs.Columns.{on_file, same_number, same_numbers}
 use Rattle.pos_search.specs.Matching.{pawn_on, pawns_below, same_files, same_pawn, same_pawns}
 use Rattle.pos_search.proofs.MatchLemmas.{files_all, files_each, is_side, pawns_all, same_side, side_is}
 
 -- ---- by files
-
--- A square on a file is a bit of its column.
-pub column-bit : (set file rank : ℕ) → rank < 8 → bit_at (bit_and (set / 2 ^ file) 72340172838076673) (8 * rank) ≡ bit_at set (square file rank)
-column-bit set file rank less =
-    let on_file : bit_at 72340172838076673 (8 * rank) ≡ 1 =
-    eqb-true (bit_at 72340172838076673 (8 * rank)) 1 (agree_below_at (λ (r : ℕ). eqb (bit_at 72340172838076673 (8 * r)) 1) (λ (r : ℕ). true) 8 rank refl less) in
-    let both = bit_at_and (set / 2 ^ file) 72340172838076673 (8 * rank) in
-    let small = bit_at-lt (set / 2 ^ file) (8 * rank) in
-    let kept : bit_at (bit_and (set / 2 ^ file) 72340172838076673) (8 * rank) ≡ bit_at (set / 2 ^ file) (8 * rank) = omega (arith, both, on_file, small) in
-    let there : file + 8 * rank ≡ square file rank = omega arith in
-    kept ∙ rw (shr-shr set file (8 * rank), there) refl
-
--- So many bits as squares.
-pub column-count : (set file column n : ℕ) → ((rank : ℕ) → rank < 8 → bit_at column (8 * rank) ≡ bit_at set (square file rank)) → n ≤ 8
-    → on_file column 0 n ≡ on_file set file n
-column-count set file column zero each few = refl
-column-count set file column (suc n) each few =
-    let place : square 0 n ≡ 8 * n = omega arith in
-    ap (λ (k : ℕ). k + bit_at column (square 0 n)) (column-count set file column n each (omega (arith, few)))
-    ∙ ap (λ (k : ℕ). on_file set file n + k) (ap (bit_at column) place ∙ each n (omega (arith, few)))
-
-pub numbers_fail : (a b file : ℕ) → file < 8 → same_number a b file ≡ false → false ≡ same_numbers a b
-unfolding same_numbers
-numbers_fail a b file less fails = sym (all_not (same_number a b) 0 8 file (omega arith) less fails)
 
 pub numbers_all : (a b : ℕ) → ((file : ℕ) → file < 8 → same_number a b file ≡ true) → true ≡ same_numbers a b
 unfolding same_numbers

@@ -1,12 +1,10 @@
 //! What two boards have in common.
-ghost use Rattle.std.specs.Prelude.{◌≡◌, ◌<◌, ◌*◌, ℕ};
-ghost use Rattle.std.specs.Int.{bit_at};
+ghost use Rattle.std.specs.Prelude.{◌≡◌, ◌<◌, ◌+◌, ◌*◌};
 ghost use Rattle.cell_core.specs.Board.{same_men};
 ghost use Rattle.cell_core.specs.Man.{is_man};
 ghost use Rattle.chess_laws.specs.Counts.{is_home};
-ghost use Rattle.chess_laws.specs.Geometry.{square};
 ghost use Rattle.sig_index.specs.Homes.{home_set};
-ghost use Rattle.pos_search.specs.Columns.{on_file, same_number, same_numbers};
+ghost use Rattle.pos_search.specs.Columns.{on_file, same_numbers, same_pair, same_pairs};
 ghost use Rattle.pos_search.specs.Matching.{same_files, same_pawns};
 
 use cell_core::{Board, Colour, Kind, Man, Square};
@@ -76,48 +74,40 @@ pub(crate) fn same_files(a: &Board, b: &Board) -> bool
     )
 }
 
-// Whether two sets have as many squares on each file.
+// Whether two sets have as many squares on each file, as the same sets have.
 fn same_numbers(a: u64, b: u64) -> bool
     ensures { result ≡ same_numbers a b }
 {
     if a == b {
         return true;
     }
-    for file in 0..8u8 {
-        if !same_number(a, b, file) {
-            return false;
-        }
-    }
-    true
+    same_pairs(a, b)
 }
 
-// Whether they have as many on this one, where they mostly have the same.
+// The same by pairs of files.
 #[inline(always)]
-fn same_number(a: u64, b: u64, file: u8) -> bool
-    requires { file < 8 }
-    ensures { result ≡ same_number a b file }
+#[tactic(auto, using(crate::proofs::ColumnLemmas::four_tests), unfolding(crate::specs::Columns::same_pairs))]
+fn same_pairs(a: u64, b: u64) -> bool
+    ensures { result ≡ same_pairs a b }
 {
-    let own = column(a, file);
-    let other = column(b, file);
-    own == other || count(own) == count(other)
+    same_pair(a, b, 0) && same_pair(a, b, 1) && same_pair(a, b, 2) && same_pair(a, b, 3)
 }
 
-// The squares of a set on a file, a bit each: the bit `8 * rank` for that on this rank.
+// Whether they have as many on this file, and as many on the fourth behind it.
 #[inline(always)]
-fn column(set: u64, file: u8) -> u64
-    requires { file < 8 }
-    ensures { (rank : ℕ) → rank < 8 → bit_at result (8 * rank) ≡ bit_at set (square file rank) }
+fn same_pair(a: u64, b: u64, file: u8) -> bool
+    requires { file < 4 }
+    ensures { result ≡ same_pair a b file }
 {
-    set >> file & 0x0101_0101_0101_0101
+    pair(a, file) == pair(b, file)
 }
 
-// How many there are.
-fn count(column: u64) -> u8
-    ensures { result ≡ on_file column 0 8 }
+// How many squares of a set stand on this file, and sixteen times as many as on the fourth behind it. Each rank has a byte, and the
+// highest byte of the product is the sum of all eight.
+#[inline(always)]
+fn pair(set: u64, file: u8) -> u64
+    requires { file < 4 }
+    ensures { result ≡ on_file set file 8 + 16 * on_file set (file + 4) 8 }
 {
-    let mut count = 0;
-    for rank in 0..8u8 {
-        count += (column >> (8 * rank) & 1) as u8;
-    }
-    count
+    (set >> file & 0x1111_1111_1111_1111).wrapping_mul(0x0101_0101_0101_0101) >> 56
 }

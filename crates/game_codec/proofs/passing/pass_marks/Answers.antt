@@ -3,7 +3,7 @@ use Rattle.game_codec.proofs.PassLaws.{if_err}
 use Rattle.chess_laws.specs.declared.setup.Setup.{Setup}
 use Rattle.game_codec.specs.Walking.{MetIn}
 use Rattle.game_codec.proofs.MetLaws.{met_behind}
-use Rattle.game_codec.proofs.passing.before_move.Goals as goal
+use Rattle.game_codec.proofs.passing.pass_marks.Goals as goal
 
 pub returns-in_err-at_front-clause-fault : goal.returns-in_err-at_front-clause-fault
 returns-in_err-at_front-clause-fault c =
