@@ -33,4 +33,4 @@ pub mod AllWalkLaws
 pub mod VisitLaws
 pub mod ReadingLaws
 pub mod DateLaws
-pub mod MetLaws
+mod TailLaws

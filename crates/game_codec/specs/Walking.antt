@@ -1,7 +1,6 @@
 -- Where a walk is in the bytes of a record, and what it passes. No public contract cites these words.
 use Rattle.std.specs.Prelude.{◌≡◌, ℕ, zero, suc, ◌+◌, ◌-◌, ◌<◌, ◌≤◌, ◌^◌, ◌⊎◌, List, [], ◌∷◌, length, drop}
 use Rattle.cell_core.specs.declared.step.Move.{Move}
-use Rattle.chess_laws.specs.declared.setup.Setup.{Setup}
 use Rattle.game_tree.specs.Game.{GameTree}
 use Rattle.game_tree.specs.Movetext.{Movetext, meaning}
 use Rattle.game_tree.specs.Replay.{main_moves, plies_of, position_at}
@@ -11,8 +10,6 @@ use Rattle.move_codec.specs.Numbers.{Numbered}
 use Rattle.game_codec.specs.Place.{Place, IsMoveDue}
 use Rattle.game_codec.specs.Moves.{SpellsMoves}
 use Rattle.game_codec.specs.Record.{IsRecord}
-use Rattle.game_codec.specs.Walk.{Meets}
-use Rattle.game_codec.specs.declared.breach.Breach.{Breach}
 use Rattle.game_codec.specs.declared.passing.Front.{Front}
 use Rattle.game_codec.specs.declared.passing.Front.TheVariants as front
 
@@ -38,10 +35,6 @@ pub record IsWalk (bytes ahead : List ℕ) (here : Numbered) (ply : ℕ) : Type 
   pub left : ply + length ahead ≤ length bytes
   pub tail : ahead ≡ drop (length bytes - length ahead) bytes
   pub follows : (tags : List Tag) (game : GameTree) → IsRecord bytes tags game → IsBehind game here ply ahead
-
--- At a position this stands if so many bytes are left.
-abbrev pub MetIn : Setup → List ℕ → Breach → Type 0
-MetIn here bytes breach = (breach.left ≤ length bytes) × Meets here (drop (length bytes - breach.left) bytes) breach.what
 
 -- What stands at the front of a main line: a move, the end of the game, or so many bytes that are passed by their marks.
 abbrev pub IsFront : List ℕ → Front → Type 0

@@ -4,7 +4,7 @@ ghost use Rattle.cell_core.specs.declared.step.Move.{Move};
 ghost use Rattle.chess_laws.specs.declared.setup.Setup.{Setup};
 ghost use Rattle.move_codec.specs.Numbers.{Numbered};
 ghost use Rattle.game_codec.specs.Place.{IsMoveDue};
-ghost use Rattle.game_codec.specs.Walking.{GoesOn, IsFront, MetIn, Within};
+ghost use Rattle.game_codec.specs.Walking.{GoesOn, IsFront, Within};
 
 use super::breach::Breach;
 use super::fault::RecordWhat;
@@ -25,7 +25,6 @@ pub(crate) fn before_move(bytes: &[u8]) -> Result<Option<usize>, Breach>
         (λ used. (used ≤ length bytes.now) × (IsMoveDue (drop used bytes.now)
         × ((here : Numbered) (moves : List Move) → GoesOn here moves bytes.now → GoesOn here moves (drop used bytes.now))))) }
     ensures fault { IfErr result (λ _. (here : Numbered) (moves : List Move) → GoesOn here moves bytes.now → ⊥) }
-    ensures met { IfErr result (λ breach. (here : Setup) → MetIn here bytes.now breach) }
 {
     if is_move(bytes) {
         Ok(Some(0))
@@ -53,7 +52,6 @@ fn pass_marks(bytes: &[u8]) -> Result<Option<usize>, Breach>
         (λ used. (used ≤ length bytes.now) × (IsMoveDue (drop used bytes.now)
         × ((here : Numbered) (moves : List Move) → GoesOn here moves bytes.now → GoesOn here moves (drop used bytes.now))))) }
     ensures fault { IfErr result (λ _. (here : Numbered) (moves : List Move) → GoesOn here moves bytes.now → ⊥) }
-    ensures met { IfErr result (λ breach. (here : Setup) → MetIn here bytes.now breach) }
 {
     let mut rest = bytes;
     loop {
@@ -69,7 +67,6 @@ fn pass_marks(bytes: &[u8]) -> Result<Option<usize>, Breach>
 fn at_front(bytes: &[u8]) -> Result<Front, Breach>
     ensures front { IfOk result (IsFront bytes.now) }
     ensures fault { IfErr result (λ _. (here : Numbered) (moves : List Move) → GoesOn here moves bytes.now → ⊥) }
-    ensures met { IfErr result (λ breach. (here : Setup) → MetIn here bytes.now breach) }
 {
     match bytes {
         [] => Err(Breach {
@@ -84,7 +81,6 @@ fn at_front(bytes: &[u8]) -> Result<Front, Breach>
 fn front_of(byte: u8, behind: &[u8]) -> Result<Front, Breach>
     ensures front { IfOk result (IsFront (byte ∷ behind.now)) }
     ensures fault { IfErr result (λ _. (here : Numbered) (moves : List Move) → GoesOn here moves (byte ∷ behind.now) → ⊥) }
-    ensures met { IfErr result (λ breach. (here : Setup) → MetIn here (byte ∷ behind.now) breach) }
 {
     match byte {
         11 => nag(behind),
@@ -103,7 +99,6 @@ fn front_of(byte: u8, behind: &[u8]) -> Result<Front, Breach>
 fn nag(behind: &[u8]) -> Result<Front, Breach>
     ensures front { IfOk result (IsFront (11 ∷ behind.now)) }
     ensures fault { IfErr result (λ _. (here : Numbered) (moves : List Move) → GoesOn here moves (11 ∷ behind.now) → ⊥) }
-    ensures met { IfErr result (λ breach. (here : Setup) → MetIn here (11 ∷ behind.now) breach) }
 {
     if behind.is_empty() {
         Err(Breach {
@@ -120,7 +115,6 @@ fn nag(behind: &[u8]) -> Result<Front, Breach>
 fn variation_len(bytes: &[u8]) -> Result<usize, Breach>
     ensures len { IfOk result (λ used. (used ≤ length bytes.now) × ((behind : List ℕ) → Within 1 bytes.now behind → drop used bytes.now ≡ behind)) }
     ensures fault { IfErr result (λ _. (behind : List ℕ) → Within 1 bytes.now behind → ⊥) }
-    ensures met { IfErr result (λ breach. (here : Setup) → MetIn here bytes.now breach) }
 {
     let mut depth = 1;
     let mut rest = bytes;
@@ -147,7 +141,6 @@ fn pass(depth: usize, bytes: &[u8]) -> Result<Passed, Breach>
     ensures used { IfOk result (λ passed. (0 < passed.used) × (passed.used ≤ length bytes.now)) }
     ensures depth { IfOk result (λ passed. passed.depth ≤ depth + 1) }
     ensures fault { IfErr result (λ _. (behind : List ℕ) → Within depth bytes.now behind → ⊥) }
-    ensures met { IfErr result (λ breach. (here : Setup) → MetIn here bytes.now breach) }
 {
     match bytes {
         [] => Err(Breach {
@@ -166,7 +159,6 @@ fn pass_by(depth: usize, byte: u8, behind: &[u8]) -> Result<Passed, Breach>
     ensures used { IfOk result (λ passed. (0 < passed.used) × (passed.used ≤ length behind.now + 1)) }
     ensures depth { IfOk result (λ passed. passed.depth ≤ depth + 1) }
     ensures fault { IfErr result (λ _. (later : List ℕ) → Within depth (byte ∷ behind.now) later → ⊥) }
-    ensures met { IfErr result (λ breach. (here : Setup) → MetIn here (byte ∷ behind.now) breach) }
 {
     if byte == 11 {
         return pass_nag(depth, behind);
@@ -199,7 +191,6 @@ fn pass_nag(depth: usize, behind: &[u8]) -> Result<Passed, Breach>
     ensures used { IfOk result (λ passed. (0 < passed.used) × (passed.used ≤ length behind.now + 1)) }
     ensures depth { IfOk result (λ passed. passed.depth ≡ depth) }
     ensures fault { IfErr result (λ _. (later : List ℕ) → Within depth (11 ∷ behind.now) later → ⊥) }
-    ensures met { IfErr result (λ breach. (here : Setup) → MetIn here (11 ∷ behind.now) breach) }
 {
     if behind.is_empty() {
         Err(Breach {

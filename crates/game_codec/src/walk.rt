@@ -11,8 +11,7 @@ ghost use Rattle.game_codec.specs.RecordAnswer.{place_of};
 ghost use Rattle.game_codec.specs.Record.{IsRecord, IsSomeRecord, IsSpelled};
 ghost use Rattle.game_codec.specs.Start.{BeginsStart, standard_start};
 ghost use Rattle.game_codec.specs.TagReading.{BeginsTags};
-ghost use Rattle.game_codec.specs.Walk.{IsMet};
-ghost use Rattle.game_codec.specs.Walking.{GoesOn, IsBehind, MetIn};
+ghost use Rattle.game_codec.specs.Walking.{GoesOn, IsBehind};
 
 use super::breach::Breach;
 use super::decoding::place_of;
@@ -99,9 +98,8 @@ impl<'a> Walk<'a> {
         ensures played { IfOk result (λ next. MatchOption next (self.new ≡ self.old)
             (λ m. Step self.old.position m self.new.position × ((self.new.ply ≡ self.old.ply + 1) × (self.new.bytes ≡ self.old.bytes)))) }
         ensures fault { IfErr result (λ _. IsSomeRecord self.old.bytes → ⊥) }
+        // Which fault it tells, and at which place, is tested: `game_vectors`, `fault_tests`.
         ensures place { IfErr result (λ fault. fault.place ≤ length self.old.bytes) }
-        // What the fault tells stands at its place, and a bad move is one of the position that was reached.
-        ensures met { IfErr result (IsMet self.old.bytes self.old.position) }
         ensures unchanged { IfErr result (λ _. self.new ≡ self.old) }
     {
         match next_move(&mut self.here, self.ahead) {
@@ -147,7 +145,6 @@ fn next_move<'a>(here: &mut Numbered, bytes: &'a [u8]) -> Result<Option<NextMove
         × ((moves : List Step') → GoesOn here.old moves bytes.now → (later : List Step') × ((moves ≡ next.mv ∷ later) × GoesOn here.new later next.ahead.now))))) }
     ensures tail { IfOk result (λ found. MatchOption found (Unit {0}) (λ next. next.ahead.now ≡ drop (length bytes.now - length next.ahead.now) bytes.now)) }
     ensures fault { IfErr result (λ _. (moves : List Step') → GoesOn here.old moves bytes.now → ⊥) }
-    ensures met { IfErr result (MetIn here.old.position bytes.now) }
     ensures unchanged { IfErr result (λ _. here.new ≡ here.old) }
 {
     let Some(used) = before_move(bytes)? else {

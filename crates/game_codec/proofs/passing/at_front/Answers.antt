@@ -3,10 +3,9 @@ use Rattle.std.specs.Prelude.{IfErr}
 use Rattle.std.proofs.lemmas.List.{nil_from_length}
 use Rattle.cell_core.specs.declared.step.Move.{Move}
 use Rattle.move_codec.specs.Numbers.{Numbered}
-use Rattle.game_codec.specs.Walking.{GoesOn, MetIn}
+use Rattle.game_codec.specs.Walking.{GoesOn}
 use Rattle.game_codec.proofs.PassLaws.{first_byte}
 use Rattle.game_codec.proofs.WalkLaws.{front_none}
-use Rattle.chess_laws.specs.declared.setup.Setup.{Setup}
 use Rattle.game_codec.proofs.passing.at_front.Goals as goal
 
 pub returns-in-empty-clause-fault : goal.returns-in-empty-clause-fault
@@ -17,7 +16,3 @@ pub returns-in-len1-up-clause-fault : goal.returns-in-len1-up-clause-fault
 returns-in-len1-up-clause-fault c =
     subst (λ (bytes : List ℕ). IfErr c.front_of.result (λ e. (here : Numbered) (moves : List Move) → GoesOn here moves bytes → ⊥))
     (sym (first_byte c.args.bytes.now c.in-len1-up.len_at_least)) c.front_of.ensures.fault
-
-pub returns-in-len1-up-clause-met : goal.returns-in-len1-up-clause-met
-returns-in-len1-up-clause-met c =
-    subst (λ (bytes : List ℕ). IfErr c.front_of.result (λ breach. (here : Setup) → MetIn here bytes breach)) (sym (first_byte c.args.bytes.now c.in-len1-up.len_at_least)) c.front_of.ensures.met

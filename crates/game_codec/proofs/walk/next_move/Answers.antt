@@ -1,11 +1,10 @@
 use Rattle.std.proofs.Common.{ℕ, List, length, drop, refl, sym, ap, subst, ◌∙◌, length-drop, arith}
-use Rattle.std.proofs.lemmas.Result.{err_from_is_err_and}
 use Rattle.game_codec.specs.Place.{IsMoveDue}
 use Rattle.game_codec.proofs.PassLaws.{if_err}
 use Rattle.game_codec.proofs.WritingLaws.{numbered-played}
 use Rattle.game_codec.proofs.WalkSteps.{move_bad, move_goes}
-use Rattle.game_codec.specs.Walking.{GoesOn, MetIn}
-use Rattle.game_codec.proofs.MetLaws.{met_bad, tail_behind}
+use Rattle.game_codec.specs.Walking.{GoesOn}
+use Rattle.game_codec.proofs.TailLaws.{tail_behind}
 use Rattle.game_codec.proofs.walk.next_move.Goals as goal
 
 pub returns-in_err-used-clause-fault : goal.returns-in_err-used-clause-fault
@@ -41,19 +40,6 @@ returns-in-Ok-clause-next c =
             (subst (GoesOn here left) back (found.1.1 here left g)),
       ),
     )
-
-pub returns-in_err-used-clause-met : goal.returns-in_err-used-clause-met
-returns-in_err-used-clause-met c =
-    let told : MetIn c.args.here.now.position c.args.bytes.now c.in_err-used.field-0.0 = c.in_err-used.ensures.met c.args.here.now.position in
-    let gone = err_from_is_err_and c.from_residual.result c.from_residual.ensures.1 in
-    rw (gone.1, gone.2) told
-
-pub returns-in-Err-clause-met : goal.returns-in-Err-clause-met
-returns-in-Err-clause-met c =
-    let here = c.args.here.now in
-    let due = c.split_at.result.1.now in
-    let found = rw c.in-Some.is at c.in_ok-used.ensures.due in
-    met_bad here c.args.bytes.now due c.in-Some.used c.in-Err.fault found.0 c.split_at.ensures.back c.in-Err.ensures.decodes
 
 pub returns-in-Ok-clause-tail : goal.returns-in-Ok-clause-tail
 returns-in-Ok-clause-tail c =

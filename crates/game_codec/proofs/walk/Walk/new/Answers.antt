@@ -1,6 +1,6 @@
 use Rattle.std.proofs.Common.{ℕ, List, length, sym, ap, subst, length-drop, arith}
 use Rattle.game_codec.specs.Walking.{IsBehind}
-use Rattle.game_codec.proofs.MetLaws.{behind_is}
+use Rattle.game_codec.proofs.TailLaws.{behind_is}
 use Rattle.game_codec.proofs.walk.Walk.new.Goals as goal
 
 pub invariant_of-result : goal.invariant_of-result

@@ -1,9 +1,9 @@
 use Rattle.std.proofs.Common.{sym, ap, subst, ◌∙◌, arith}
 use Rattle.game_tree.specs.Replay.{next_at}
 use Rattle.game_codec.specs.Record.{IsRecord, IsSomeRecord}
-use Rattle.game_codec.specs.Walk.{IsMet, Walked}
+use Rattle.game_codec.specs.Walk.{Walked}
 use Rattle.game_codec.proofs.WalkSteps.{behind_ends, behind_next, behind_more}
-use Rattle.game_codec.proofs.MetLaws.{is_met, met_behind, tail_more}
+use Rattle.game_codec.proofs.TailLaws.{tail_more}
 use Rattle.game_codec.proofs.walk.Walk.step.Goals as goal
 
 pub invariant_of-self-in-Ok-Some : goal.invariant_of-self-in-Ok-Some
@@ -38,12 +38,3 @@ returns-in-Ok-Some-clause-next c = λ tags game r.
     sym (behind_next game c.self.inside.here c.self.inside.ply c.self.inside.ahead.now (c.self.invariant.follows tags game here)
     c.next_move.new.here c.in-Ok-Some.next.ahead.now c.in-Ok-Some.next.mv next.0 next.1.1)
     ∙ ap (λ (w : Walked). next_at game w.ply) c.self.view_is
-
-pub returns-in-Err-clause-met : goal.returns-in-Err-clause-met
-returns-in-Err-clause-met c =
-    let here = c.self.inside.here.position in
-    let bytes = c.self.inside.bytes.now in
-    let ahead = c.self.inside.ahead.now in
-    let met = met_behind here bytes ahead c.in-Err.breach (omega (arith, c.self.invariant.left)) c.self.invariant.tail c.in-Err.ensures.met in
-    subst (λ (w : Walked). IsMet w.bytes w.position c.fault_at.result) c.self.view_is
-    (is_met bytes here c.in-Err.breach c.fault_at.result met c.fault_at.ensures.what c.fault_at.ensures.place)
