@@ -1,5 +1,5 @@
 -- Laws of `tag`.
-use Rattle.std.proofs.Common.{◌≡◌, ℕ, List, Option, Some, IfSome, subst, sym, ap, ◌∙◌, ◌<◌, true, ◌++◌, length, None, arith, Ok, Err, inl, inr, refl, ◌≤◌, map, option_map, Bool, ap₂, Result, [], ◌∷◌}
+use Rattle.std.proofs.Common.{◌≡◌, ℕ, List, Option, Some, IfSome, subst, sym, ap, ◌∙◌, ◌<◌, true, false, ◌++◌, length, None, arith, Ok, Err, inl, inr, refl, ◌≤◌, map, option_map, Bool, ap₂, Result, [], ◌∷◌}
 use Rattle.std.proofs.lemmas.Option.{slice_get_past}
 use Rattle.std.specs.Option.{option_map_or}
 use Rattle.std.specs.Prelude.{cond, if◌then◌else◌, is_some, slice_get, unwrap_or, codes}

@@ -103,6 +103,7 @@ impl<'a> AllWalk<'a> {
         ensures bounded { self.new.given ≤ length self.new.bytes }
         ensures bytes { self.new.bytes ≡ self.old.bytes }
         ensures fault { IfErr result (λ _. IsSomeRecord self.old.bytes → ⊥) }
+        // Which fault it tells, and at which place, is tested: `game_vectors`, `fault_tests`.
         ensures place { IfErr result (λ fault. fault.place ≤ length self.old.bytes) }
     {
         match self.lines.next_move() {

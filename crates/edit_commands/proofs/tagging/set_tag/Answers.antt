@@ -15,12 +15,6 @@ use Rattle.shell_state.proofs.TableLaws.{hits_fit}
 use Rattle.shell_state.specs.Lines.{game_line}
 use Rattle.shell_state.specs.Stands.{Holding, Sound, Stands, len_at}
 
-pub get-requires : goal.get-requires
-get-requires g c =
-    let sound = subst (λ (h : Holding). Sound h (g.F.Files.seen c.args.files.now)) (sym c.machine.view_is) c.requires.sound in
-    let there = subst (λ (h : Holding). c.args.i < length h.kept.entries) (sym c.machine.view_is) c.requires.there in
-    record { game = omega (arith, there, sound.fits.filter) }
-
 pub set_game-requires : goal.set_game-requires
 set_game-requires g c =
     let sound = subst (λ (h : Holding). Sound h (g.F.Files.seen c.args.files.now)) (sym c.machine.view_is) c.requires.sound in

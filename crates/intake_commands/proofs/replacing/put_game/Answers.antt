@@ -38,13 +38,6 @@ returns-in_err-replace_in_index-in-Ok-clause-carries g c = λ s st. carry_append
 pub returns-in_err-set_game-in-Ok-clause-carries : goal.returns-in_err-set_game-in-Ok-clause-carries
 returns-in_err-set_game-in-Ok-clause-carries g c = λ s st. carry_appended c.args.machine.now (g.F.Files.seen c.args.files.now) (g.F.Files.seen c.replace_game-replaced.new.files) _ s None c.in-Ok.ensures.appended st
 
-pub get-requires : goal.get-requires
-get-requires g c =
-    let sound = subst (λ (h : Holding). Sound h (g.F.Files.seen c.args.files.now)) (sym c.machine.view_is) c.requires.sound in
-    let there = subst (λ (h : Holding). c.args.i < length h.kept.entries) (sym c.machine.view_is) c.requires.there in
-    let same : length c.put_at_start.new.filter ≡ length c.machine.inside.seat.filter = ap (λ (f : List (Option ℕ)). length f) c.put_at_start.ensures.filter ∙ length_to_start c.args.i c.machine.inside.seat.filter in
-    record { game = omega (arith, there, sound.fits.filter, same) }
-
 pub set_game-requires : goal.set_game-requires
 set_game-requires g c =
     let sound = subst (λ (h : Holding). Sound h (g.F.Files.seen c.args.files.now)) (sym c.machine.view_is) c.requires.sound in
