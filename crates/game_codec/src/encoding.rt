@@ -12,7 +12,7 @@ ghost use Rattle.game_codec.specs.Writing.{AddsStart};
 use super::fault::EncodeError;
 use super::moves::{Body, put_line};
 use cell_core::Text;
-use chess_laws::Position;
+use chess_laws::{Position, Setup};
 use chess_text::write_fen;
 use game_tree::{Game, Tag};
 use move_codec::Numbered;
@@ -25,7 +25,7 @@ const LONGEST: usize = 131_071;
 #[derive(Debug, Drop)]
 pub struct Encoded {
     pub record: Vec<u8>,
-    pub last: Position,
+    pub last: Setup,
 }
 
 /// Writes the record of a legal game with these extra tags, which are within their bounds. The record has one written
@@ -73,14 +73,15 @@ fn whole_record(alloc: Global, g: &Game, tags: &[Tag]) -> Result<Encoded, AllocE
     put_tags(&mut out, tags)?;
     let flags = promotion_flags(g);
     let start = put_start(alloc, &mut out, &g.start, flags)?;
+    let mut position = start.track();
     let mut body = Body::new(alloc);
-    let end = put_line(&mut body, &start, &g.lead, g.line.as_slice())?;
+    put_line(&mut body, &mut position, &g.lead, g.line.as_slice())?;
     out.extend_from_slice(body.moves.as_slice())?;
     out.push(15)?;
     out.extend_from_slice(body.texts.as_slice())?;
     Ok(Encoded {
         record: out,
-        last: *end.position(),
+        last: *position.setup(),
     })
 }
 
@@ -90,8 +91,9 @@ fn promotion_flags(g: &Game) -> u8
     ensures flags { result ≡ promotion_flags g.now }
     ensures few { result < 8 }
 {
-    let any = if g.has_promotion() { 2 } else { 0 };
-    let under = if g.has_underpromotion() { 4 } else { 0 };
+    let promotions = g.promotions();
+    let any = if promotions.any { 2 } else { 0 };
+    let under = if promotions.under { 4 } else { 0 };
     any + under
 }
 
