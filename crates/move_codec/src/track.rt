@@ -1,10 +1,10 @@
 //! A line whose moves are known to be legal.
-ghost use Rattle.std.specs.Prelude.{◌≡◌, ◌<◌, IfSome};
+ghost use Rattle.std.specs.Prelude.{◌≡◌, ◌<◌, ◌++◌, ◌∷◌, ℕ, List, IfSome, Ok, false, length};
 ghost use Rattle.cell_core.specs.Board.{man_at};
 ghost use Rattle.chess_laws.specs.Position.{Sound};
 ghost use Rattle.chess_laws.specs.Step.{Legal, Step};
 ghost use Rattle.move_codec.specs.Numbers.{numbers_after};
-ghost use Rattle.move_codec.specs.Packed.{encoding, encoding_by, value_of};
+ghost use Rattle.move_codec.specs.Packed.{Decodes, encoding, encoding_by, is_mark, value_of};
 
 use super::numbered::packed;
 use super::numbers::{Numbers, capture_square};
@@ -51,10 +51,12 @@ impl Track {
         }
     }
 
-    /// Plays a legal move, and gives the bytes that `Numbered::encode_move` gives for it.
+    /// Plays a legal move, and gives its bytes, which are those of `Numbered::encode_move`.
     pub fn pack(&mut self, m: &Move) -> ArrayVec<u8, 2>
         requires legal { Legal self.old.position m.now }
         ensures bytes { result.items ≡ encoding self.old m.now }
+        ensures decodes { (rest : List ℕ) → Decodes self.old (result.items ++ rest) (Ok (m.now, length result.items)) }
+        ensures apart { (byte : ℕ) × ((later : List ℕ) × ((result.items ≡ byte ∷ later) × (is_mark byte ≡ false))) }
         ensures step { Step self.old.position m.now self.new.position }
         ensures numbers { self.new.numbers ≡ numbers_after self.old.position m.now self.old.numbers }
     {

@@ -1,8 +1,9 @@
 -- The numbers follow a legal move as the setup does, which keeps the rules.
-use Rattle.move_codec.proofs.Words.{◌≡◌, ◌<◌, ◌∙◌, ap, refl, sym, subst, Option, Some, None, other, man_at, Legal, Man, Move, Setup, Step, effect_of, Numbered, squares_of, capture_square, is_some, value_of}
+use Rattle.move_codec.proofs.Words.{◌≡◌, ◌<◌, ◌∙◌, ap, refl, sym, subst, Option, Some, None, other, man_at, Legal, Man, Move, Setup, Step, effect_of, Numbered, squares_of, capture_square, is_some, encoding, value_of}
 use Rattle.std.specs.Prelude.{IfSome}
 use Rattle.chess_laws.specs.Step.{after}
 use Rattle.chess_laws.proofs.MovedKings.{Sound-after}
+use Rattle.move_codec.proofs.Apart.{encode-told}
 use Rattle.move_codec.proofs.Boards.{numbering_of, without-unless}
 use Rattle.move_codec.proofs.RoundTrip.{number-small, value-small}
 use Rattle.move_codec.proofs.Steps.{AreNumbers-step}
@@ -58,3 +59,20 @@ returns-clause-step c =
     let legal : Legal p m = subst (λ (k : Numbered). Legal k.position m) (sym c.self.view_is) c.requires.legal in
     let next : c.make.new.self ≡ after p m (effect_of p m) = c.make.ensures.becomes ∙ ap (after p m) c.effect-effect.ensures.effect in
     subst (λ (k : Numbered). Step k.position m c.make.new.self) c.self.view_is (makes p m c.make.new.self next legal)
+
+-- The bytes are those of the move, and decode to it.
+pub returns-clause-decodes : goal.returns-clause-decodes
+returns-clause-decodes c =
+    let n : Numbered = record { position = c.self.inside.setup; numbers = c.self.inside.numbers } in
+    let bytes : c.bytes_of-bytes.result.items ≡ encoding c.args.self.now c.args.m.now =
+    c.bytes_of-bytes.ensures
+    ∙ rw (c.at-standing.ensures.man, c.number_of-number.ensures.number, c.of.ensures.squares) (ap (λ (k : Numbered). encoding k c.args.m.now) c.self.view_is) in
+    (encode-told n c.args.self.now c.self.view_is c.args.m.now c.self.invariant.0 c.self.invariant.1 c.requires.legal c.bytes_of-bytes.result.items bytes).0
+
+pub returns-clause-apart : goal.returns-clause-apart
+returns-clause-apart c =
+    let n : Numbered = record { position = c.self.inside.setup; numbers = c.self.inside.numbers } in
+    let bytes : c.bytes_of-bytes.result.items ≡ encoding c.args.self.now c.args.m.now =
+    c.bytes_of-bytes.ensures
+    ∙ rw (c.at-standing.ensures.man, c.number_of-number.ensures.number, c.of.ensures.squares) (ap (λ (k : Numbered). encoding k c.args.m.now) c.self.view_is) in
+    (encode-told n c.args.self.now c.self.view_is c.args.m.now c.self.invariant.0 c.self.invariant.1 c.requires.legal c.bytes_of-bytes.result.items bytes).1
