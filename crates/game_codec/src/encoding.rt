@@ -21,6 +21,9 @@ use std::alloc::{AllocError, Global};
 // The greatest length of a record, in bytes.
 const LONGEST: usize = 131_071;
 
+// The room that a record takes at first, in bytes: most records have no more.
+const USUAL: usize = 256;
+
 /// A record, and the position in which the main line of its game ends.
 #[derive(Debug, Drop)]
 pub struct Encoded {
@@ -69,13 +72,14 @@ fn whole_record(alloc: Global, g: &Game, tags: &[Tag]) -> Result<Encoded, AllocE
     ensures last { IfOk result (λ encoded. encoded.last ≡ position_at g.now (plies_of g.now)) }
     ensures is_game { IfOk result (λ _. IsGame g.now) }
 {
-    let mut out = Vec::new(alloc);
+    let line = g.line.as_slice();
+    let mut out = Vec::with_capacity(alloc, USUAL)?;
     put_tags(&mut out, tags)?;
     let flags = promotion_flags(g);
     let start = put_start(alloc, &mut out, &g.start, flags)?;
     let mut position = start.track();
-    let mut body = Body::new(alloc);
-    put_line(&mut body, &mut position, &g.lead, g.line.as_slice())?;
+    let mut body = Body::new(alloc, line.len())?;
+    put_line(&mut body, &mut position, &g.lead, line)?;
     out.extend_from_slice(body.moves.as_slice())?;
     out.push(15)?;
     out.extend_from_slice(body.texts.as_slice())?;

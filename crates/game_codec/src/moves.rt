@@ -23,15 +23,15 @@ pub(crate) struct Body {
 }
 
 impl Body {
-    /// Nothing yet.
-    pub(crate) fn new(alloc: Global) -> Body
-        ensures moves { result.moves.items ≡ [] }
-        ensures texts { result.texts.items ≡ [] }
+    /// Nothing yet, with room for so many bytes of moves.
+    pub(crate) fn new(alloc: Global, room: usize) -> Result<Body, AllocError>
+        ensures moves { IfOk result (λ body. body.moves.items ≡ []) }
+        ensures texts { IfOk result (λ body. body.texts.items ≡ []) }
     {
-        Body {
-            moves: Vec::new(alloc),
+        Ok(Body {
+            moves: Vec::with_capacity(alloc, room)?,
             texts: Vec::new(alloc),
-        }
+        })
     }
 
     // Adds a comment, if there is one.
