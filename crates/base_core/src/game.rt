@@ -191,7 +191,7 @@ fn read_unchanged(
         Ok(decoded) => decoded,
         Err(error) => return Err(unread_error(i, sig_in(e), error)),
     };
-    let found = sig_ending(&game, &last);
+    let found = sig_ending(&game, last.setup());
     if differing(e, &found).is_some() {
         return Err(EditError::Changed {
             game: i,

@@ -21,6 +21,7 @@ mod setup;
 mod sliding;
 mod targets;
 mod towards;
+mod unchecked;
 
 pub use castling::{king_target, rook_home, rook_target};
 pub use counts::Counts;

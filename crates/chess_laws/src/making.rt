@@ -48,9 +48,9 @@ pub fn make(
     gives_check(&p.board, side, &come, m.to, resting)
 }
 
-// Makes the move of what stands on its first square, and gives what stands on its target then.
+/// Makes the move of what stands on its first square, and gives what stands on its target then.
 #[inline(always)]
-fn change_as(p: &mut Setup, m: &Move, effect: Effect, standing: Option<Man>) -> Option<Man>
+pub fn change_as(p: &mut Setup, m: &Move, effect: Effect, standing: Option<Man>) -> Option<Man>
     requires standing { standing ≡ man_at p.old.board m.now.from }
     ensures becomes { p.new ≡ after p.old m.now effect }
     ensures come { result ≡ man_at p.new.board m.now.to }

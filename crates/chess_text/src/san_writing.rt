@@ -66,7 +66,7 @@ pub fn play_san(p: &mut Position, m: &Move) -> ArrayVec<u8, 8>
 {
     let effect = p.effect(m);
     let mut text = front_of(p, p.setup(), m, effect);
-    p.play(*m);
+    p.play_as(m, effect);
     push_sign(&mut text, sign_behind(p, effect));
     text
 }

@@ -63,6 +63,36 @@ moves-node n node rest =
     ∙ ap (λ (bytes : List ℕ). first ++ (nags ++ (comment ++ (variations ++ bytes)))) (moves_text-before n next next (line_of rest))
     ∙ simp append_assoc refl
 
+-- A move with its variations, which are written behind all else of it.
+pub varied-node : (n : Numbered) (node : Played) (old own new : List ℕ)
+    → own ≡ old ++ (encoding n node.mv ++ (nags_text node.nags ++ mark_text node.comment)) → new ≡ own ++ variations_text n node.variations
+    → new ≡ old ++ node_text n node
+varied-node n node old own new is wrote = wrote ∙ ap (λ (bytes : List ℕ). bytes ++ variations_text n node.variations) is ∙ simp append_assoc refl
+
+pub varied-texts : (node : Played) (old own new : List ℕ) → own ≡ old ++ comment_text node.comment → new ≡ own ++ variations_texts node.variations
+    → new ≡ old ++ node_texts node
+varied-texts node old own new is wrote =
+    wrote ∙ ap (λ (bytes : List ℕ). bytes ++ variations_texts node.variations) is ∙ append_assoc old (comment_text node.comment) (variations_texts node.variations)
+
+-- A move without its variations, part by part.
+pub own-node : (n : Numbered) (node : Played) (mv : Move) (nags bytes : List ℕ) (comment : Option (List ℕ)) (variations : Branches)
+    (old packed nagged new : List ℕ) → record { mv = mv; nags = nags; comment = comment; variations = variations } ≡ node
+    → bytes ≡ encoding n mv → packed ≡ old ++ bytes → nagged ≡ packed ++ nags_text nags → new ≡ nagged ++ mark_text comment
+    → new ≡ old ++ (encoding n node.mv ++ (nags_text node.nags ++ mark_text node.comment))
+own-node n node mv nags bytes comment variations old packed nagged new view is put_bytes put_nags put_mark =
+    put_mark
+    ∙ ap (λ (out : List ℕ). out ++ mark_text comment) (put_nags ∙ ap (λ (out : List ℕ). out ++ nags_text nags) (put_bytes ∙ ap (λ (out : List ℕ). old ++ out) is))
+    ∙ simp append_assoc refl
+    ∙ ap (λ (p : Played). old ++ (encoding n p.mv ++ (nags_text p.nags ++ mark_text p.comment))) view
+
+-- A move without a variation.
+pub plain-node : (n : Numbered) (node : Played) (old new : List ℕ) → node.variations ≡ none
+    → new ≡ old ++ (encoding n node.mv ++ (nags_text node.nags ++ mark_text node.comment)) → new ≡ old ++ node_text n node
+plain-node n node old new plain is = varied-node n node old new new is (sym (append-nil new) ∙ ap (λ (v : Branches). new ++ variations_text n v) (sym plain))
+
+pub plain-texts : (node : Played) (old new : List ℕ) → node.variations ≡ none → new ≡ old ++ comment_text node.comment → new ≡ old ++ node_texts node
+plain-texts node old new plain is = varied-texts node old new new is (sym (append-nil new) ∙ ap (λ (v : Branches). new ++ variations_texts v) (sym plain))
+
 -- Texts
 
 ended-append : (first second : List (List ℕ)) → ended (first ++ second) ≡ ended first ++ ended second

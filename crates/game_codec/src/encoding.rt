@@ -12,7 +12,7 @@ ghost use Rattle.game_codec.specs.Writing.{AddsStart};
 use super::fault::EncodeError;
 use super::moves::{Body, put_line};
 use cell_core::Text;
-use chess_laws::Position;
+use chess_laws::{Position, Setup};
 use chess_text::write_fen;
 use game_tree::{Game, Tag};
 use move_codec::Numbered;
@@ -21,11 +21,14 @@ use std::alloc::{AllocError, Global};
 // The greatest length of a record, in bytes.
 const LONGEST: usize = 131_071;
 
+// The room that a record takes at first, in bytes: most records have no more.
+const USUAL: usize = 256;
+
 /// A record, and the position in which the main line of its game ends.
 #[derive(Debug, Drop)]
 pub struct Encoded {
     pub record: Vec<u8>,
-    pub last: Position,
+    pub last: Setup,
 }
 
 /// Writes the record of a legal game with these extra tags, which are within their bounds. The record has one written
@@ -69,18 +72,20 @@ fn whole_record(alloc: Global, g: &Game, tags: &[Tag]) -> Result<Encoded, AllocE
     ensures last { IfOk result (λ encoded. encoded.last ≡ position_at g.now (plies_of g.now)) }
     ensures is_game { IfOk result (λ _. IsGame g.now) }
 {
-    let mut out = Vec::new(alloc);
+    let line = g.line.as_slice();
+    let mut out = Vec::with_capacity(alloc, USUAL)?;
     put_tags(&mut out, tags)?;
     let flags = promotion_flags(g);
     let start = put_start(alloc, &mut out, &g.start, flags)?;
-    let mut body = Body::new(alloc);
-    let end = put_line(&mut body, &start, &g.lead, g.line.as_slice())?;
+    let mut position = start.track();
+    let mut body = Body::new(alloc, line.len())?;
+    put_line(&mut body, &mut position, &g.lead, line)?;
     out.extend_from_slice(body.moves.as_slice())?;
     out.push(15)?;
     out.extend_from_slice(body.texts.as_slice())?;
     Ok(Encoded {
         record: out,
-        last: *end.position(),
+        last: *position.setup(),
     })
 }
 
@@ -90,8 +95,9 @@ fn promotion_flags(g: &Game) -> u8
     ensures flags { result ≡ promotion_flags g.now }
     ensures few { result < 8 }
 {
-    let any = if g.has_promotion() { 2 } else { 0 };
-    let under = if g.has_underpromotion() { 4 } else { 0 };
+    let promotions = g.promotions();
+    let any = if promotions.any { 2 } else { 0 };
+    let under = if promotions.under { 4 } else { 0 };
     any + under
 }
 

@@ -14,3 +14,4 @@ pub mod MovetextLemmas
 pub mod TreeLemmas
 pub mod LegalLemmas
 pub mod WrittenLemmas
+pub mod PromotionLemmas

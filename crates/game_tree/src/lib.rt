@@ -32,6 +32,7 @@ pub use head::{Head, HeadRef, Outcome, Rating, Tag};
 pub use legality::{DEEPEST, comments_leave_the_moves, legal};
 pub use marks::mark_letters;
 pub use node::{Branch, Node};
+pub use promotions::Promotions;
 pub use settling::settle;
 pub use tag_edit::{TagEdit, TagEditError, apply};
 pub use tag_name::{is_refused, is_reserved, is_tag_byte, is_tag_name, rating_of, rating_tag};

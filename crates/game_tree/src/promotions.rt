@@ -8,6 +8,13 @@ use super::game::Game;
 use super::node::{Branch, Node};
 use cell_core::{Kind, Move};
 
+/// Whether there is a promotion, and whether there is one to another man than a queen.
+#[derive(Clone, Copy, Debug, Default, PartialEq, Eq)]
+pub struct Promotions {
+    pub any: bool,
+    pub under: bool,
+}
+
 // What a walk over the lines looks for.
 #[derive(Clone, Copy)]
 enum Sought {
@@ -28,6 +35,19 @@ impl Game {
         ensures has { result ≡ has_underpromotion self.now }
     {
         line_has(self.line.as_slice(), Sought::Underpromotion)
+    }
+
+    /// Both at once. Most games have no promotion, and are gone through once.
+    #[tactic(auto, using(crate::proofs::PromotionLemmas::none_under))]
+    pub fn promotions(&self) -> Promotions
+        ensures any { result.any ≡ has_promotion self.now }
+        ensures under { result.under ≡ has_underpromotion self.now }
+    {
+        let any = self.has_promotion();
+        Promotions {
+            any,
+            under: any && self.has_underpromotion(),
+        }
     }
 }
 

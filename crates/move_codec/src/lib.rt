@@ -5,8 +5,10 @@ mod fault;
 mod numbered;
 mod numbers;
 mod targets;
+mod track;
 mod values;
 
 pub use fault::MoveFault;
 pub use numbered::Numbered;
 pub use numbers::{NumberedMen, Numbers};
+pub use track::Track;

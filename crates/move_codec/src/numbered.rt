@@ -14,6 +14,7 @@ use super::numbers::{Numbers, capture_square};
 use super::targets::{
     diagonal_square, king_square, knight_square, on_diagonal, on_line, pawn_square, promotion,
 };
+use super::track::Track;
 use super::values::{is_line, value_of};
 use arrayvec::ArrayVec;
 use cell_core::{Colour, Kind, Move, Square};
@@ -271,6 +272,16 @@ impl Numbered {
         }
     }
 
+    /// The same, for a line whose moves are known to be legal.
+    pub fn track(&self) -> Track
+        ensures same { result ≡ self.now }
+    {
+        Track {
+            setup: *self.position.setup(),
+            numbers: self.numbers.copy(),
+        }
+    }
+
     /// The bytes of a legal move: two of a queen's diagonal move, one of any other. They decode to the move, whatever
     /// follows them. They never begin with a byte from 11 to 15: a king's values end at 10, and its number is always 0.
     pub fn encode_move(&self, m: Move) -> ArrayVec<u8, 2>
@@ -328,7 +339,7 @@ fn first_byte(bytes: &[u8]) -> u8
 
 /// The bytes of a move of the man with this number and kind.
 #[tactic(auto, unfolding(crate::specs::Packed::rest_of))]
-fn packed(number: usize, kind: Kind, m: &Move) -> ArrayVec<u8, 2>
+pub(crate) fn packed(number: usize, kind: Kind, m: &Move) -> ArrayVec<u8, 2>
     requires number { number < 16 }
     requires value { value_of kind m.now < 16 }
     ensures { result.items ≡ (16 * number + value_of kind m.now) ∷ rest_of kind m.now }

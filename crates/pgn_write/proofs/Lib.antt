@@ -2,3 +2,4 @@ pub mod TagLaws
 pub mod WritingLaws
 pub mod LayoutLaws
 pub mod PgnLaws
+pub mod WriterLaws

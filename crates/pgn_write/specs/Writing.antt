@@ -1,6 +1,6 @@
 -- A movetext while its tokens are written one by one. The last unit is kept back, since a closing bracket may still
 -- belong to it, and only a whole unit tells whether it fits on its line. No public contract cites these words.
-use Rattle.std.specs.Prelude.{ℕ, ◌+◌, ◌≤◌, Bool, true, false, ◌||◌, if◌then◌else◌, List, [], ◌∷◌, ◌++◌, Option, Some, None, is_some, length, refl}
+use Rattle.std.specs.Prelude.{ℕ, ◌+◌, ◌-◌, ◌≤◌, Bool, true, false, ◌||◌, if◌then◌else◌, List, [], ◌∷◌, ◌++◌, Option, Some, None, is_some, length, take, drop, refl}
 use Rattle.std.specs.Coded.{Coded, code_by, coded×, coded_ℕ, coded_bool, coded_list, coded_option}
 use Rattle.cell_core.specs.declared.man.Colour.{Colour}
 use Rattle.cell_core.specs.declared.man.Colour.TheVariants.{White, Black}
@@ -21,6 +21,20 @@ pub record Writing : Type 0 where
   pub unit : List ℕ
   pub column : Option ℕ
   pub holds : Bool
+
+-- A text that is written and the unit behind it, one behind the other: the unit begins at a place, and the byte that leads it in stands
+-- before it, whatever it is, unless it is the first.
+abbrev pub lead_size : Option ℕ → ℕ
+lead_size None = 0
+lead_size (Some column) = 1
+
+pub record IsLaid (text : List ℕ) (place : ℕ) (column : Option ℕ) : Type 0 where
+  pub led : lead_size column ≤ place
+  pub within : place ≤ length text
+
+abbrev pub seen : List ℕ → ℕ → Option ℕ → Bool → Writing
+seen text place column holds =
+    record { written = take (place - lead_size column) text; unit = drop place text; column = column; holds = holds }
 
 -- Before the first token.
 abbrev pub begun : List ℕ → Writing

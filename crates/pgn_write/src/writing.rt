@@ -49,23 +49,18 @@ fn game_text(
     let mut out = Vec::with_capacity(alloc, USUAL)?;
     put_tags(alloc, &mut out, head, tags, g)?;
     out.push(b'\n')?;
-    let mut text = with_movetext(alloc, out, g, head.result)?;
+    let mut text = with_movetext(out, g, head.result)?;
     text.extend_from_slice(b"\n\n")?;
     Ok(text)
 }
 
 // A text of two bytes or more, and the movetext of a game behind it.
-fn with_movetext(
-    alloc: Global,
-    out: Vec<u8>,
-    g: &Game,
-    outcome: Outcome,
-) -> Result<Vec<u8>, AllocError>
+fn with_movetext(out: Vec<u8>, g: &Game, outcome: Outcome) -> Result<Vec<u8>, AllocError>
     requires legal { IsLegalGame g.now }
     requires some { 2 ≤ length out.items }
     ensures text { IfOk result (λ text. text.items ≡ out.items ++ layout (tokens_of g.now outcome)) }
 {
-    let mut writer = Writer::new(alloc, out);
+    let mut writer = Writer::new(out);
     put_line(&mut writer, &g.start, 1, &g.lead, g.line.as_slice())?;
     writer.ending(outcome)?;
     writer.flush()?;

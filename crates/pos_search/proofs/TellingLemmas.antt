@@ -10,7 +10,6 @@ use Rattle.cell_core.specs.Packed.{Packed, cells_of, men_of, packed_of}
 use Rattle.cell_core.proofs.Packing.{given_back}
 use Rattle.chess_laws.specs.Position.{Sound}
 use Rattle.chess_laws.specs.declared.setup.Setup.{Setup}
-use Rattle.chess_laws.proofs.MovedKings.{Sound-after}
 use Rattle.game_tree.specs.Game.{GameTree}
 use Rattle.game_tree.specs.Legal.{IsLegalGame}
 use Rattle.game_tree.specs.Replay.{next_at, plies_of, position_at}
@@ -23,7 +22,7 @@ use Rattle.sig_index.specs.declared.pos_query.Mode.TheVariants.{Exact, Pawns, Fi
 use Rattle.sig_index.specs.declared.pos_query.PosQuery.{PosQuery}
 use Rattle.sig_index.specs.declared.signature.Sig.{Sig}
 use Rattle.base_files.specs.declared.extent.Extent.{Extent}
-use Rattle.sig_index.proofs.PrefixLemmas.{moves_at}
+use Rattle.sig_index.proofs.PrefixLemmas.{sound_at}
 use Rattle.sig_index.proofs.Ranges.{find_first, found_first}
 use Rattle.sig_index.proofs.RecordLemmas.{game_legal, game_sound}
 use Rattle.pos_search.specs.Matching.{IsLegalFrom, first_if_aside, first_on_main, hit_of, hit_on_main, matches, matches_at}
@@ -62,14 +61,6 @@ matches_told query p board is exact holds =
     ((same_packed-Decides (packed_of query.board query.side) board).1 ((λ i. packed_of (sym (m.exact exact) i) (sym m.side i)) ∙ sym is))
 
 -- ---- the places of a game
-
--- Its positions keep the rules.
-sound_at : (game : GameTree) (k : ℕ) → Sound game.start → IsLegalGame game → k ≤ plies_of game → Sound (position_at game k)
-sound_at game zero sound legal within = sound
-sound_at game (suc k) sound legal within =
-    let m = moves_at game k sound legal (omega (arith, within)) in
-    let next : Sound (position_at game (k + 1)) = subst Sound (sym m.step.becomes) (Sound-after (position_at game k) m.move m.sound (position_at game (k + 1), m.step)) in
-    subst (λ (n : ℕ). Sound (position_at game n)) (let same : k + 1 ≡ suc k = omega arith in same) next
 
 find_map : {X Y : Type 0} (test : Y → Bool) (f : X → Y) (xs : List X) → find test (map f xs) ≡ option_map f (find (λ (x : X). test (f x)) xs)
 find_map test f [] = refl

@@ -10,6 +10,7 @@ use Rattle.chess_laws.specs.Counts.{is_home}
 use Rattle.chess_laws.specs.Position.{Sound, start_men, start_setup}
 use Rattle.chess_laws.specs.Step.{Step, stepped}
 use Rattle.chess_laws.specs.declared.setup.Setup.{Setup}
+use Rattle.chess_laws.proofs.MovedKings.{Sound-after}
 use Rattle.game_tree.specs.Game.{GameTree}
 use Rattle.game_tree.specs.Legal.{IsLegalGame, IsLegalLine}
 use Rattle.game_tree.specs.Replay.{plies_of, position_at}
@@ -44,6 +45,14 @@ moves_along p (goes m nags comment variations line) (suc k) sound legal less =
 pub moves_at : (game : GameTree) (k : ℕ) → Sound game.start → IsLegalGame game → k < plies_of game → Moves (position_at game k) (position_at game (k + 1))
 moves_at game k sound legal less =
     subst (λ (n : ℕ). Moves (position_at game k) (position_at game n)) (sym (add-one k)) (moves_along game.start game.line k sound legal.line less)
+
+-- The positions of a main line keep the rules.
+pub sound_at : (game : GameTree) (k : ℕ) → Sound game.start → IsLegalGame game → k ≤ plies_of game → Sound (position_at game k)
+sound_at game zero sound legal within = sound
+sound_at game (suc k) sound legal within =
+    let m = moves_at game k sound legal (omega (arith, within)) in
+    let next : Sound (position_at game (k + 1)) = subst Sound (sym m.step.becomes) (Sound-after (position_at game k) m.move m.sound (position_at game (k + 1), m.step)) in
+    subst (λ (n : ℕ). Sound (position_at game n)) (let same : k + 1 ≡ suc k = omega arith in same) next
 
 -- ---- the pawns at home after some moves
 

@@ -1,7 +1,8 @@
 //! The signature of a game, by which searches pass it over unread.
 ghost use Rattle.std.specs.Prelude.{◌≡◌, ◌≤◌, length};
 ghost use Rattle.chess_laws.specs.Counts.{counts_of};
-ghost use Rattle.chess_laws.specs.Position.{start_setup};
+ghost use Rattle.cell_core.specs.Board.{Men};
+ghost use Rattle.chess_laws.specs.Position.{Sound, start_setup};
 ghost use Rattle.index_entry.specs.Entry.{AreCounts};
 ghost use Rattle.game_tree.specs.Legal.{IsLegalGame};
 ghost use Rattle.game_tree.specs.Replay.{plies_of, position_at};
@@ -9,7 +10,7 @@ ghost use Rattle.sig_index.specs.Signature.{IsSig, IsSigBounded, material_of, le
 
 use crate::leaving::Still;
 use arrayvec::ArrayVec;
-use chess_laws::Position;
+use chess_laws::{Counts, Position, Setup};
 use game_tree::Game;
 use index_entry::count_code;
 
@@ -51,7 +52,7 @@ pub fn sig_of(g: &Game) -> Sig
     ensures signature { IsSig g.now result }
     ensures bounded { IsSigBounded result }
 {
-    sig_ending(g, &end_of(g))
+    sig_ending(g, end_of(g).setup())
 }
 
 // The last position of the main line.
@@ -68,24 +69,27 @@ fn end_of(g: &Game) -> Position
 }
 
 /// The signature of a legal game whose main line ends in this position. No move is played, and no memory is taken.
-pub fn sig_ending(g: &Game, last: &Position) -> Sig
+pub fn sig_ending(g: &Game, last: &Setup) -> Sig
     requires legal { IsLegalGame g.now }
     requires last { last.now ≡ position_at g.now (plies_of g.now) }
     ensures signature { IsSig g.now result }
     ensures bounded { IsSigBounded result }
 {
+    // The rules of the start hold at the end, where they bound the pawns.
+    let _start = g.start.setup();
     let own_start = !g.start.is_start();
     let counts = g.counts();
+    let promotions = g.promotions();
     Sig {
-        material: material_of(last),
+        material: material_at(last),
         home: if own_start {
             home_list(&[])
         } else {
             left_along(g)
         },
         plies: g.line.as_slice().len().min(1023) as u16,
-        promo: g.has_promotion(),
-        under: g.has_underpromotion(),
+        promo: promotions.any,
+        under: promotions.under,
         own_start,
         vars: count_code(counts.variations),
         comments: count_code(counts.comments),
@@ -128,7 +132,22 @@ pub(crate) fn material_of(last: &Position) -> [u8; 10]
 {
     // The rules of a position bound the pawns.
     let _setup = last.setup();
-    let counts = last.counts();
+    capped(&last.counts())
+}
+
+// The same of a setup, whose men are counted.
+fn material_at(last: &Setup) -> [u8; 10]
+    requires sound { Sound last.now }
+    ensures material { result ≡ material_of last.now.board }
+    ensures bounded { AreCounts result }
+{
+    capped(&Counts::of(&last.board).numbers())
+}
+
+// These counts, with more than three as three, but for pawns.
+fn capped(counts: &[u8; 10]) -> [u8; 10]
+    ensures material { (men : Men) → counts.now ≡ counts_of men → result ≡ material_of men }
+{
     [
         counts[0].min(3),
         counts[1].min(3),

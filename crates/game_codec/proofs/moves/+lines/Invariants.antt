@@ -14,10 +14,10 @@ abbrev pub invariant-put_line-loop-node : goal.invariant-put_line-loop-node
 invariant-put_line-loop-node l = record {
   legal : IsLegalLine l.position.position (line_of (drop l.node-index l.line));
   moves : l.body.moves.items ++ moves_text l.position l.position (movetext_of (line_of (drop l.node-index l.line)))
-      ≡ l.initial.body.moves.items ++ moves_text l.start l.start (movetext_of (line_of l.line));
+      ≡ l.initial.body.moves.items ++ moves_text l.initial.position l.initial.position (movetext_of (line_of l.line));
   texts : l.body.texts.items ++ ended (texts_of (movetext_of (line_of (drop l.node-index l.line))))
       ≡ l.initial.body.texts.items ++ ended (texts_of (movetext_of (line_of l.line)));
-  end : fold stepped l.position.position (moves_of (line_of (drop l.node-index l.line))) ≡ fold stepped l.start.position (moves_of (line_of l.line));
+  end : fold stepped l.position.position (moves_of (line_of (drop l.node-index l.line))) ≡ fold stepped l.initial.position.position (moves_of (line_of l.line));
 }
 
 abbrev pub invariant-put_variations-loop-variation : goal.invariant-put_variations-loop-variation
