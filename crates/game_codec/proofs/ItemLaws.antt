@@ -5,12 +5,12 @@ use Rattle.std.proofs.lemmas.Bool.Decides.{nat_tests}
 use Rattle.cell_core.specs.declared.step.Move.{Move}
 use Rattle.move_codec.specs.declared.fault.MoveFault.{MoveFault}
 use Rattle.move_codec.specs.Packed.{Decodes, is_mark}
-use Rattle.move_codec.proofs.Apart.{Decodes-one}
+use Rattle.move_codec.proofs.RoundTrip.{Decodes-one}
 use Rattle.game_codec.specs.Place.{Place, Takes, FaultAt, IsMisplaced}
 use Rattle.game_codec.specs.Token.{Token, Play, Nag, Comment, Open, Close, End}
 use Rattle.game_codec.specs.declared.fault.RecordWhat.{RecordWhat}
 use Rattle.game_codec.specs.declared.fault.RecordWhat.TheVariants as what
-use Rattle.move_codec.proofs.DecodedLaws.{to_decodes}
+use Rattle.move_codec.proofs.Decoding.{to_decodes}
 
 -- An item with the bytes behind it, or a fault.
 abbrev Answer : Type 0

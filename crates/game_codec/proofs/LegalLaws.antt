@@ -5,7 +5,7 @@ use Rattle.game_tree.specs.Movetext.{Movetext, end, move, nag, comment, variatio
 use Rattle.game_tree.specs.Legal.{IsComment, IsLegalLine, AreLegalBranches, IsLegalGame}
 use Rattle.chess_laws.proofs.Stepping.{Legal-stepped}
 use Rattle.move_codec.specs.Numbers.{Numbered}
-use Rattle.move_codec.proofs.DecodedLaws.{to_decodes}
+use Rattle.move_codec.proofs.Decoding.{to_decodes}
 use Rattle.game_codec.specs.Place.{Place, beginning, after_move, after_comment, variation_of}
 use Rattle.game_codec.specs.Moves.{SpellsMoves}
 use Rattle.game_codec.specs.RecordAnswer.{game_of}

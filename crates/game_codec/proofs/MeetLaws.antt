@@ -6,7 +6,7 @@ use Rattle.cell_core.specs.declared.step.Move.{Move}
 use Rattle.chess_laws.proofs.Stepping.{Step-stepped}
 use Rattle.move_codec.specs.declared.fault.MoveFault.{MoveFault}
 use Rattle.move_codec.specs.Packed.{Decodes, is_mark}
-use Rattle.move_codec.proofs.Apart.{Decodes-one}
+use Rattle.move_codec.proofs.RoundTrip.{Decodes-one}
 use Rattle.move_codec.proofs.Decoding.{same_ok}
 use Rattle.game_codec.specs.Place.{IsMoveDue}
 use Rattle.game_codec.specs.Visits.{Visit, visit_from}

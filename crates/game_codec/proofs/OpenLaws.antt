@@ -8,7 +8,7 @@ use Rattle.game_tree.specs.Tree.{Branches, none}
 use Rattle.move_codec.specs.Numbers.{Numbered}
 use Rattle.move_codec.specs.Packed.{Decodes, is_mark}
 use Rattle.game_codec.specs.Token.{Token, Close, End}
-use Rattle.move_codec.proofs.DecodedLaws.{to_decodes}
+use Rattle.move_codec.proofs.Decoding.{to_decodes}
 use Rattle.game_codec.specs.Place.{Place, Takes, ending, numbered_after, after_move, after_comment, variation_of}
 use Rattle.game_codec.specs.Moves.{SpellsMoves}
 use Rattle.game_codec.specs.Nests.{Hangs, IsCalm}

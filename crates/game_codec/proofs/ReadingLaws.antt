@@ -15,7 +15,7 @@ use Rattle.game_codec.specs.Checking.{AreSomeTexts, full_among}
 use Rattle.game_codec.specs.Fault.{Breaks}
 use Rattle.game_codec.specs.Moves.{SpellsMoves, Upto, here, BreaksMoves}
 use Rattle.game_codec.specs.Nests.{IsKept, IsPast, token_of}
-use Rattle.move_codec.proofs.DecodedLaws.{to_decodes}
+use Rattle.move_codec.proofs.Decoding.{to_decodes}
 use Rattle.game_codec.specs.Place.{Place, Takes, FaultAt, after_move, beginning, ending, variation_of}
 use Rattle.game_codec.specs.Reading.{BreaksLine, Does, Ends, HasRead, IsReading, Passes, Plays, Reads}
 use Rattle.game_codec.specs.Record.{IsRecord}

@@ -6,12 +6,12 @@ use Rattle.game_tree.specs.Movetext.{Movetext, end, move, nag, comment, variatio
 use Rattle.game_tree.specs.Replay.{plies_of}
 use Rattle.game_tree.specs.declared.head.Tag.{Tag}
 use Rattle.move_codec.specs.Numbers.{Numbered}
-use Rattle.move_codec.proofs.Apart.{Decodes-used}
+use Rattle.move_codec.proofs.RoundTrip.{Decodes-used}
 use Rattle.game_codec.specs.TagReading.{BeginsTags}
 use Rattle.game_codec.specs.Start.{BeginsStart}
 use Rattle.game_codec.specs.Place.{Place, Takes, ending, beginning, after_move, after_comment, variation_of}
 use Rattle.game_codec.specs.Moves.{SpellsMoves}
-use Rattle.move_codec.proofs.DecodedLaws.{to_decodes}
+use Rattle.move_codec.proofs.Decoding.{to_decodes}
 use Rattle.game_codec.proofs.TagReadingLaws.{tag_at-shorter}
 use Rattle.game_codec.specs.Record.{IsSpelled}
 use Rattle.game_codec.specs.Token.{Token, Play, Nag, Comment, Open, Close, End}

@@ -9,8 +9,7 @@ use Rattle.chess_text.proofs.AnswerLaws.{reads_answer, answer_sound}
 use Rattle.chess_text.proofs.WritingLaws.{written_reads, written_zero_free}
 use Rattle.move_codec.specs.declared.numbers.Numbers.{Numbers}
 use Rattle.move_codec.specs.Numbers.{Numbered, AreNumbers, text_numbers}
-use Rattle.move_codec.proofs.Standard.{AreNumbers-standard}
-use Rattle.move_codec.proofs.Text.{AreNumbers-text}
+use Rattle.move_codec.proofs.Text.{AreNumbers-standard, AreNumbers-text}
 use Rattle.game_codec.specs.Start.{standard_start, IsOwnStart, BeginsStart, IsCutStart, IsBadStart, BreaksStart}
 use Rattle.game_codec.specs.declared.fault.RecordWhat.{RecordWhat}
 use Rattle.game_codec.specs.declared.fault.RecordWhat.TheVariants as what

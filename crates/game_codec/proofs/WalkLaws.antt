@@ -15,9 +15,8 @@ use Rattle.game_tree.specs.Tree.{moves_of}
 use Rattle.move_codec.specs.declared.fault.MoveFault.{MoveFault}
 use Rattle.move_codec.specs.Numbers.{Numbered, squares_of}
 use Rattle.move_codec.specs.Packed.{Decodes, diagonal_move, diagonal_square, is_diagonal, is_mark, king_differences, knight_differences, by_difference, named, named_by, named_from, named_value, on_diagonal, on_line, pawn_square, promotion, to_square}
-use Rattle.move_codec.proofs.Decoding.{to_square-takes}
+use Rattle.move_codec.proofs.Decoding.{to_square-takes, to_decodes}
 use Rattle.game_codec.specs.Token.{Token, Play, Close, End}
-use Rattle.move_codec.proofs.DecodedLaws.{to_decodes}
 use Rattle.game_codec.specs.Place.{Place, Takes, IsMoveDue, numbered_after, after_move, after_comment, variation_of}
 use Rattle.game_codec.specs.Moves.{SpellsMoves}
 use Rattle.game_codec.specs.Walking.{GoesOn, IsInside, Within}

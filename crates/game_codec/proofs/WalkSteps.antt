@@ -12,7 +12,7 @@ use Rattle.chess_laws.proofs.Stepping.{Step-stepped}
 use Rattle.move_codec.specs.declared.fault.MoveFault.{MoveFault}
 use Rattle.move_codec.specs.Numbers.{Numbered}
 use Rattle.move_codec.specs.Packed.{Decodes}
-use Rattle.move_codec.proofs.Apart.{Decodes-one}
+use Rattle.move_codec.proofs.RoundTrip.{Decodes-one}
 use Rattle.move_codec.proofs.Decoding.{same_ok}
 use Rattle.game_codec.specs.TagReading.{BreaksTags, BeginsTags}
 use Rattle.game_codec.specs.Start.{BeginsStart, BreaksStart}

@@ -24,10 +24,9 @@ use Rattle.game_tree.specs.Promotions.{has_promotion, has_underpromotion}
 use Rattle.game_tree.specs.Written.{movetext_of_game, nags_before, comment_before, movetext_of, variations_before}
 use Rattle.move_codec.specs.Numbers.{Numbered, AreNumbers}
 use Rattle.move_codec.specs.Packed.{encoding}
-use Rattle.move_codec.proofs.Apart.{encoding-apart}
-use Rattle.move_codec.proofs.RoundTrip.{round_trip}
+use Rattle.move_codec.proofs.RoundTrip.{encoding-apart, round_trip}
 use Rattle.move_codec.proofs.Steps.{AreNumbers-step}
-use Rattle.move_codec.proofs.DecodedLaws.{from_decodes}
+use Rattle.move_codec.proofs.Decoding.{from_decodes}
 use Rattle.game_codec.specs.Place.{Place, Takes, ending, numbered_after, beginning, after_move, after_comment, variation_of}
 use Rattle.game_codec.specs.Token.{Play}
 use Rattle.game_codec.specs.Moves.{SpellsMoves}
@@ -40,8 +39,7 @@ use Rattle.game_codec.specs.Texts.{ended, texts_of}
 use Rattle.game_codec.proofs.RecordAnswerLaws.{from_spelled}
 use Rattle.game_codec.proofs.TagLaws.{tags_text-begins, free_of-IsTag}
 use Rattle.game_codec.proofs.StartLaws.{standard-begins, own-begins}
-use Rattle.move_codec.proofs.Standard.{AreNumbers-standard}
-use Rattle.move_codec.proofs.Text.{AreNumbers-text}
+use Rattle.move_codec.proofs.Text.{AreNumbers-standard, AreNumbers-text}
 
 -- What the moves of a line spell
 

@@ -5,9 +5,6 @@ pub mod Tables
 pub mod Cases
 pub mod RoundTrip
 pub mod Steps
-pub mod Standard
 pub mod Text
 pub mod Decoding
-pub mod Apart
-pub mod DecodedLaws
 pub mod Words

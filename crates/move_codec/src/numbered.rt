@@ -290,22 +290,7 @@ impl Numbered {
         ensures decodes { (rest : List ℕ) → Decodes self.now (result.items ++ rest) (Ok (m, length result.items)) }
         ensures apart { (byte : ℕ) × ((later : List ℕ) × ((result.items ≡ byte ∷ later) × (is_mark byte ≡ false))) }
     {
-        self.encode(&m)
-    }
-
-    /// `encode_move` of a lent move.
-    fn encode(&self, m: &Move) -> ArrayVec<u8, 2>
-        requires { Legal self.now.position m.now }
-        ensures bytes { result.items ≡ encoding self.now m.now }
-        ensures decodes { (rest : List ℕ) → Decodes self.now (result.items ++ rest) (Ok (m.now, length result.items)) }
-        ensures apart { (byte : ℕ) × ((later : List ℕ) × ((result.items ≡ byte ∷ later) × (is_mark byte ≡ false))) }
-    {
-        let side = self.position.side();
-        let number = self.numbers.of(side).number_of(m.from);
-        match self.position.setup().board.at(m.from) {
-            None => ArrayVec::new(),
-            Some(man) => packed(number, man.kind, m),
-        }
+        self.track().pack(&m)
     }
 
     /// The move that the first bytes name and how many they are, or why they name none: legality apart.

@@ -1,6 +1,6 @@
 //! A line whose moves are known to be legal.
-ghost use Rattle.std.specs.Prelude.{◌≡◌, ◌<◌, ◌++◌, ◌∷◌, ℕ, List, IfSome, Ok, false, length};
-ghost use Rattle.cell_core.specs.Board.{man_at};
+ghost use Rattle.std.specs.Prelude.{◌≡◌, ◌<◌, ◌++◌, ◌∷◌, ℕ, List, Some, Ok, false, length};
+ghost use Rattle.cell_core.specs.declared.man.Man.{Man as ManValue};
 ghost use Rattle.chess_laws.specs.Position.{Sound};
 ghost use Rattle.chess_laws.specs.Step.{Legal, Step};
 ghost use Rattle.move_codec.specs.Numbers.{numbers_after};
@@ -75,7 +75,7 @@ impl Track {
 /// The bytes of a move of what stands on its first square, with this number.
 fn bytes_of(number: usize, standing: Option<Man>, m: &Move) -> ArrayVec<u8, 2>
     requires number { number < 16 }
-    requires value { IfSome standing (λ man. value_of man.kind m.now < 16) }
+    requires value { (man : ManValue) → standing ≡ Some man → value_of man.kind m.now < 16 }
     ensures { result.items ≡ encoding_by standing number m.now }
 {
     match standing {

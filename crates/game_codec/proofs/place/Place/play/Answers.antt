@@ -8,7 +8,7 @@ use Rattle.game_codec.specs.Place.{Place, Takes, FaultAt, IsMoveDue}
 use Rattle.game_codec.specs.Token.{Play}
 use Rattle.game_codec.specs.Nests.{IsCalmBehind, with_before}
 use Rattle.game_codec.specs.declared.fault.RecordWhat.TheVariants as what
-use Rattle.move_codec.proofs.DecodedLaws.{from_decodes}
+use Rattle.move_codec.proofs.Decoding.{from_decodes}
 use Rattle.game_codec.proofs.KeptLaws.{kept_move}
 use Rattle.game_codec.proofs.WritingLaws.{numbered-played}
 use Rattle.game_codec.proofs.place.Place.play.Goals as goal

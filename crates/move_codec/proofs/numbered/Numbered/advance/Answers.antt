@@ -1,4 +1,4 @@
-use Rattle.move_codec.proofs.DecodedLaws.{Decodes-told}
+use Rattle.move_codec.proofs.Decoding.{Decodes-told}
 use Rattle.move_codec.proofs.numbered.Numbered.advance.Goals as goal
 
 pub returns : goal.returns

@@ -1,5 +1,5 @@
 use Rattle.move_codec.proofs.Words.{sym}
-use Rattle.move_codec.proofs.DecodedLaws.{Decodes-told, to_decodes}
+use Rattle.move_codec.proofs.Decoding.{Decodes-told, to_decodes}
 use Rattle.move_codec.proofs.numbered.Numbered.decode_move.Goals as goal
 
 pub returns : goal.returns

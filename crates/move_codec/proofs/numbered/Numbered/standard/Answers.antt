@@ -1,4 +1,4 @@
-use Rattle.move_codec.proofs.Standard.{AreNumbers-standard}
+use Rattle.move_codec.proofs.Text.{AreNumbers-standard}
 use Rattle.move_codec.proofs.numbered.Numbered.standard.Goals as goal
 
 pub invariant_of-result : goal.invariant_of-result

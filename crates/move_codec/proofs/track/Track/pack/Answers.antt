@@ -1,21 +1,15 @@
 -- The numbers follow a legal move as the setup does, which keeps the rules.
-use Rattle.move_codec.proofs.Words.{◌≡◌, ◌<◌, ◌∙◌, ap, refl, sym, subst, Option, Some, None, other, man_at, Legal, Man, Move, Setup, Step, effect_of, Numbered, squares_of, capture_square, is_some, encoding, value_of}
-use Rattle.std.specs.Prelude.{IfSome}
+use Rattle.move_codec.proofs.Words.{◌≡◌, ◌<◌, ◌∙◌, ap, refl, sym, subst, Some, other, man_at, Legal, Move, Setup, Step, effect_of, Numbered, numbers_after, squares_of, capture_square, is_some, encoding}
 use Rattle.chess_laws.specs.Step.{after}
 use Rattle.chess_laws.proofs.MovedKings.{Sound-after}
-use Rattle.move_codec.proofs.Apart.{encode-told}
+use Rattle.move_codec.proofs.RoundTrip.{encode-told, number-small, value-small}
 use Rattle.move_codec.proofs.Boards.{numbering_of, without-unless}
-use Rattle.move_codec.proofs.RoundTrip.{number-small, value-small}
 use Rattle.move_codec.proofs.Steps.{AreNumbers-step}
 use Rattle.move_codec.proofs.track.Track.pack.Goals as goal
 
 -- A legal move leads to what is made of it.
 makes : (p : Setup) (m : Move) (q : Setup) → q ≡ after p m (effect_of p m) → Legal p m → Step p m q
 makes p m q is legal = subst (Step p m) (legal.1.becomes ∙ sym is) legal.1
-
-if_some : (o : Option Man) (m : Move) → ((x : Man) → o ≡ Some x → value_of x.kind m < 16) → IfSome o (λ (x : Man). value_of x.kind m < 16)
-if_some None m told = tt
-if_some (Some x) m told = told x refl
 
 pub bytes_of-bytes-requires-clause-number : goal.bytes_of-bytes-requires-clause-number
 bytes_of-bytes-requires-clause-number c =
@@ -25,12 +19,9 @@ bytes_of-bytes-requires-clause-number c =
     (subst (λ (k : Numbered). Legal k.position c.args.m.now) (sym c.self.view_is) c.requires.legal))
 
 pub bytes_of-bytes-requires-clause-value : goal.bytes_of-bytes-requires-clause-value
-bytes_of-bytes-requires-clause-value c =
-    let n : Numbered = record { position = c.self.inside.setup; numbers = c.self.inside.numbers } in
-    if_some c.at-standing.result c.args.m.now
-    (λ x is. value-small n c.args.m.now c.self.invariant.0.squares c.self.invariant.1
-    (subst (λ (k : Numbered). Legal k.position c.args.m.now) (sym c.self.view_is) c.requires.legal)
-    x (sym c.at-standing.ensures.man ∙ is))
+bytes_of-bytes-requires-clause-value c = λ x is.
+    value-small (record { position = c.self.inside.setup; numbers = c.self.inside.numbers }) c.args.m.now c.self.invariant.0.squares c.self.invariant.1
+    (subst (λ (k : Numbered). Legal k.position c.args.m.now) (sym c.self.view_is) c.requires.legal) x (sym c.at-standing.ensures.man ∙ is)
 
 pub follow_by-requires-clause-none : goal.follow_by-requires-clause-none
 follow_by-requires-clause-none c =
@@ -52,27 +43,21 @@ invariant_of-self c =
           (AreNumbers-step p m c.make.new.self c.self.inside.numbers c.self.invariant.0 (makes p m c.make.new.self next legal) c.self.invariant.1),
     )
 
-pub returns-clause-step : goal.returns-clause-step
-returns-clause-step c =
+pub returns : goal.returns
+returns c =
     let p = c.self.inside.setup in
     let m = c.args.m.now in
+    let n : Numbered = record { position = p; numbers = c.self.inside.numbers } in
     let legal : Legal p m = subst (λ (k : Numbered). Legal k.position m) (sym c.self.view_is) c.requires.legal in
     let next : c.make.new.self ≡ after p m (effect_of p m) = c.make.ensures.becomes ∙ ap (after p m) c.effect-effect.ensures.effect in
-    subst (λ (k : Numbered). Step k.position m c.make.new.self) c.self.view_is (makes p m c.make.new.self next legal)
-
--- The bytes are those of the move, and decode to it.
-pub returns-clause-decodes : goal.returns-clause-decodes
-returns-clause-decodes c =
-    let n : Numbered = record { position = c.self.inside.setup; numbers = c.self.inside.numbers } in
-    let bytes : c.bytes_of-bytes.result.items ≡ encoding c.args.self.now c.args.m.now =
+    let bytes : c.bytes_of-bytes.result.items ≡ encoding c.args.self.now m =
     c.bytes_of-bytes.ensures
-    ∙ rw (c.at-standing.ensures.man, c.number_of-number.ensures.number, c.of.ensures.squares) (ap (λ (k : Numbered). encoding k c.args.m.now) c.self.view_is) in
-    (encode-told n c.args.self.now c.self.view_is c.args.m.now c.self.invariant.0 c.self.invariant.1 c.requires.legal c.bytes_of-bytes.result.items bytes).0
-
-pub returns-clause-apart : goal.returns-clause-apart
-returns-clause-apart c =
-    let n : Numbered = record { position = c.self.inside.setup; numbers = c.self.inside.numbers } in
-    let bytes : c.bytes_of-bytes.result.items ≡ encoding c.args.self.now c.args.m.now =
-    c.bytes_of-bytes.ensures
-    ∙ rw (c.at-standing.ensures.man, c.number_of-number.ensures.number, c.of.ensures.squares) (ap (λ (k : Numbered). encoding k c.args.m.now) c.self.view_is) in
-    (encode-told n c.args.self.now c.self.view_is c.args.m.now c.self.invariant.0 c.self.invariant.1 c.requires.legal c.bytes_of-bytes.result.items bytes).1
+    ∙ rw (c.at-standing.ensures.man, c.number_of-number.ensures.number, c.of.ensures.squares) (ap (λ (k : Numbered). encoding k m) c.self.view_is) in
+    let told = encode-told n c.args.self.now c.self.view_is m c.self.invariant.0 c.self.invariant.1 c.requires.legal c.bytes_of-bytes.result.items bytes in
+    record {
+      bytes = bytes;
+      decodes = told.0;
+      apart = told.1;
+      step = subst (λ (k : Numbered). Step k.position m c.make.new.self) c.self.view_is (makes p m c.make.new.self next legal);
+      numbers = rw (c.follow_by.ensures.after, c.effect-effect.ensures.effect) (ap (λ (k : Numbered). numbers_after k.position m k.numbers) c.self.view_is);
+    }
