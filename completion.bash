@@ -5,7 +5,7 @@ _pondlater() {
     case ${COMP_WORDS[0]##*/} in
         scid_shell) options+=" --create --strict --desk" ;;
         scid_page) options+=" --depth --least --only --from --side --names --replace" ;;
-        scid_mend) options+=" --back --fronts" ;;
+        scid_mend) options+=" --back --fronts --loose" ;;
         scid_import) options="--help --create --again --piece" ;;
         scid_export)
             options="--help --board"

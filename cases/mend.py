@@ -229,6 +229,60 @@ ROWS = [
 ]
 
 
+# The records that no entry names: bases, what `--loose` tells of them, and the moves of the games that it takes, the last ones of the new base.
+D4_RECORD, C4_RECORD = made.game(made.D4), made.game(made.C4)
+SAID_RECORD = MANY[GAMES][RECORDS[2]:-len(C4_RECORD)]
+GAPS = [len(MANY[GAMES]), len(MANY[GAMES]) + len(D4_RECORD)]
+
+
+def without(entries, base=MANY):
+    """The base without the entries of these games, whose records stay."""
+    packed = [base[INDEX][place:place + 47] for place in range(ENTRIES, len(base[INDEX]), 47)]
+    return made.index([entry for game, entry in enumerate(packed) if game not in entries]), *base[1:]
+
+
+def behind(base, more):
+    return base[INDEX], base[NAMES], base[GAMES] + more
+
+
+def took(game, place):
+    return f"took {game}: games file: the record at byte {place}, which has no entry"
+
+
+LOOSE_HEADS = "0 * ????.??.?? - ? - ?"
+ALL_LOOSE = [took(game, place) for game, place in enumerate([*RECORDS, len(MANY[GAMES]) - len(C4_RECORD)])]
+ALL_MOVES = ["1. e4 *", "1. d4 *", "{Start} 1. e4 $1 {Best} (1. d4) *", "1. c4 *"]
+NO_HEADER = "index file: an index of {} bytes, which is no whole header; no entry is known"
+GARBAGE = b"garbage \xbc\xbd" + b"\0\0\x0f"
+LOOSE = [
+    ("34. an index of no bytes", cut(MANY, INDEX, 0), [NO_HEADER.format(0), *ALL_LOOSE], 4, 4, ALL_MOVES),
+    ("35. an index of another magic with another length", (b"Scid.xx" + MANY[INDEX][7:-1], *MANY[1:]),
+     ["index file: not an index; no entry is known", *ALL_LOOSE], 4, 4, ALL_MOVES),
+    ("36. an index cut in its third entry", cut(MANY, INDEX, ENTRIES + 2 * 47 + 10),
+     ["counted 4, found 2", took(2, RECORDS[2]), took(3, len(MANY[GAMES]) - len(C4_RECORD))], 4, 4, ALL_MOVES[2:]),
+    ("37. a record between two others that no entry names", without({1}), [took(3, RECORDS[1])], 4, 4, ALL_MOVES[1:2]),
+    ("38. records behind the last one, and zeros", behind(MANY, D4_RECORD + C4_RECORD + bytes(300)), [took(4, GAPS[0]), took(5, GAPS[1])], 6, 6,
+     ["1. d4 *", "1. c4 *"]),
+    ("39. garbage before and behind a record without an entry", behind(MANY, GARBAGE + SAID_RECORD + GARBAGE),
+     [took(4, GAPS[0] + len(GARBAGE))], 5, 5, ALL_MOVES[2:3]),
+    ("40. an index cut in its third entry, and a record with a fault", (*cut(MANY, INDEX, ENTRIES + 2 * 47 + 10)[:2],
+                                                                        MANY[GAMES][:-len(C4_RECORD)] + b"\0\0\xbc\x0f"),
+     ["counted 4, found 2", took(2, RECORDS[2]), f"left out 3: {too_few(ENTRIES + 2 * 47 + 10)}"], 3, 4, ALL_MOVES[2:3]),
+    ("an index whose magic is another and whose length fits", behind((b"Scid.xx" + MANY[INDEX][7:], *MANY[1:]), D4_RECORD),
+     ["index file: not an index; its entries are tried", took(4, GAPS[0])], 5, 5, ["1. d4 *"]),
+    ("nothing but records with entries", MANY, [], 4, 4, []),
+    ("records that say nothing", behind(MANY, b"\0\0\x0f" * 9), [], 4, 4, []),
+    ("a record that begins like filling", behind(MANY, b"\0\0\0" + made.D4 + b"\x0f"), [took(4, GAPS[0] + 1)], 5, 5, ["1. d4 *"]),
+    ("two records of which one ends a block", (made.index([]), MANY[NAMES], bytes(131072 - len(D4_RECORD)) + D4_RECORD + C4_RECORD),
+     [took(0, 131072 - len(D4_RECORD)), took(1, 131072)], 2, 2, ["1. d4 *", "1. c4 *"]),
+    ("a record that crosses the end of a block", (made.index([]), MANY[NAMES], bytes(131072 - 3) + made.VIENNA_RECORD), [], 0, 0, []),
+    ("a record within that of an entry", (made.index([made.entry(0, len(D4_RECORD) + len(C4_RECORD))]), MANY[NAMES], D4_RECORD + C4_RECORD),
+     ["left out 0: games file: game 0, byte 4: bytes behind the record"], 0, 1, []),
+    ("an entry whose record ends behind the file", (made.index([made.entry(0, 300)]), MANY[NAMES], D4_RECORD),
+     ["left out 0: games file: the record of game 0 ends behind the end of the file", took(1, 0)], 1, 2, ["1. d4 *"]),
+]
+
+
 def write(folder, name, base):
     for ending, content in zip(ENDINGS, base):
         (folder / f"{name}.{ending}").write_bytes(content)
@@ -294,6 +348,26 @@ def a_front(folder, record, fault, moves):
     assert moves is None or moves_of(text) == moves, moves_of(text)
 
 
+def a_loose_record(folder, base, told, came, of, moves):
+    """With `--loose` each whole record that no entry names comes over behind the other games, without a head."""
+    write(folder, "old", base)
+    before = contents(folder)
+    got = run(folder, "--loose", "old", "new")
+    taken = sum(line.startswith("took") for line in told)
+    status = NOT_ALL if taken or came < of else 0
+    assert got == (status, "".join(line + "\n" for line in [*told, f"mended {came} of {of} games, {taken} changed"]), ""), got
+    assert all(contents(folder)[name] == content for name, content in before.items()), "the old base was changed"
+    code, text, errors = opened(folder, "new")
+    assert (code, errors, text[:1]) == (0, "", [f"base {came} games 0 mended"]), (code, errors, text)
+    heads = text[1 + came - taken: 1 + came]
+    assert heads == [f"{came - taken + i} {LOOSE_HEADS}" for i in range(taken)], heads
+    exported = "\n".join(text).rstrip().split("\n\n")
+    assert [" ".join(moved.split()) for moved in exported[len(exported) - 2 * taken + 1:: 2]] == moves, exported
+    # With both options nothing is lost of it.
+    status, text, errors = run(folder, "--loose", "--fronts", "old", "both")
+    assert (errors, text.count("took")) == ("", taken), (status, text, errors)
+
+
 def refusals(folder):
     """What is refused leaves the folder as it was."""
     write(folder, "old", ONE)
@@ -304,7 +378,7 @@ def refusals(folder):
     (folder / "there.sn4").write_bytes(b"mine")
     before = contents(folder)
     in_the_way = "it is in the way, and this run did not make it; it stays as it is"
-    usage = (USAGE, "", "usage: scid_mend [--fronts] OLD NEW\n")
+    usage = (USAGE, "", "usage: scid_mend [--fronts] [--loose] OLD NEW\n")
     for words, wanted in [
         (("magic", "new"), (BAD_INDEX, "", "bad base: index file: not an index\n")),
         (("older", "new"), (BAD_INDEX, "", "bad base: index file: an index of version 300\n")),
@@ -318,6 +392,8 @@ def refusals(folder):
         (("old", ""), usage),
         (("--strict", "old"), usage),
         (("--fronts", "old"), usage),
+        (("--loose", "old"), usage),
+        (("--loose", "--other", "old", "new"), usage),
         (("--fronts", "old", "new", "more"), usage),
         (("old", "--fronts", "new"), usage),
     ]:
@@ -326,9 +402,11 @@ def refusals(folder):
         assert contents(folder) == before, (words, sorted(contents(folder)))
     status, _, errors = run(folder, "absent", "new")
     assert status == FILES_FAULT and errors.startswith("absent.si4: ") and contents(folder) == before, errors
+    status, _, errors = run(folder, "--loose", "absent", "new")
+    assert status == FILES_FAULT and errors.startswith("absent.si4: ") and contents(folder) == before, errors
     assert run(folder, "--version") == (0, "scid_mend 0.1.0\n", "")
     status, text, errors = run(folder, "--help")
-    assert (status, errors) == (0, "") and text.startswith("usage: scid_mend [--fronts] OLD NEW\n")
+    assert (status, errors) == (0, "") and text.startswith("usage: scid_mend [--fronts] [--loose] OLD NEW\n")
 
 
 def a_compaction_that_was_broken_off(folder):
@@ -362,6 +440,13 @@ def absent_files(folder):
         assert {name: after[name] for name in before} == before and set(after) - set(before) == {f"new.{new}" for new in ENDINGS}, sorted(after)
         code, text, errors = opened(folder, "new")
         assert (code, errors, text[1: len(listed) + 1]) == (0, "", listed), (code, errors, text)
+    write(folder, "old", MANY)
+    (folder / "old.si4").unlink()
+    for new in ENDINGS:
+        (folder / f"new.{new}").unlink(missing_ok=True)
+    lines = ["index file: not there", NO_HEADER.format(0), *ALL_LOOSE, "mended 4 of 4 games, 4 changed"]
+    assert run(folder, "--loose", "old", "new") == (NOT_ALL, "".join(line + "\n" for line in lines), "")
+    assert opened(folder, "new")[0] == 0 and not (folder / "old.si4").exists()
     for absent, special in (("sn4", "sg4"), ("sg4", "sn4")):
         write(folder, "old", MANY)
         (folder / f"old.{absent}").unlink()
@@ -413,6 +498,7 @@ def a_full_output(folder):
 
 def main():
     rows = [(title, a_row, row) for title, *row in WAYS + ROWS] + [(title, a_front, row) for title, *row in FRONTS]
+    rows += [(title, a_loose_record, row) for title, *row in LOOSE]
     for title, shows, row in rows:
         with tempfile.TemporaryDirectory() as folder:
             try:

@@ -112,6 +112,10 @@ pub on-ok-so : {A E : Type 0} (P Q : Type 0) (r : Result A E) → (P → Q) → 
 on-ok-so P Q (Ok x) f is = f is
 on-ok-so P Q (Err e) f is = tt
 
+pub on-err-so : {A E : Type 0} (P Q : Type 0) (r : Result A E) → (P → Q) → OnErr r P → OnErr r Q
+on-err-so P Q (Ok x) f is = tt
+on-err-so P Q (Err e) f is = f is
+
 pub on-err-any : {A E : Type 0} (Q : Type 0) (r : Result A E) → Q → OnErr r Q
 on-err-any Q (Ok x) is = tt
 on-err-any Q (Err e) is = is

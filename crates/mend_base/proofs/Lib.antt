@@ -4,6 +4,7 @@ pub mod FieldLaws
 pub mod NoteLaws
 pub mod PlaceLaws
 pub mod FrontLaws
+pub mod LooseLaws
 pub mod FindLaws
 pub mod MendLaws
 pub mod WholeLaws

@@ -16,6 +16,9 @@ use Rattle.mend_base.specs.Entries.{entries_found}
 use Rattle.mend_base.specs.Fronts.{saved_in, steps_of}
 use Rattle.mend_base.specs.Places.{place_of}
 use Rattle.mend_base.specs.declared.fronts.Faulty.{Faulty}
+use Rattle.mend_base.specs.declared.ways.Way.{Way}
+use Rattle.mend_base.specs.declared.finding.Change.{Change}
+use Rattle.mend_base.specs.declared.finding.Change.TheVariants as why
 use Rattle.mend_base.specs.declared.finding.Find.{Find}
 use Rattle.mend_base.specs.declared.finding.Find.TheVariants as find
 
@@ -37,17 +40,17 @@ abbrev pub mend_cost : List ℕ → ℕ
 mend_cost index = entries_cost index (entries_found index)
 
 -- A game of a games file comes over with these bytes as its record, and is kept by this entry, which says where they stand in a file.
-pub record KeepsWhole (faulty : Faulty) (index : List ℕ) (names : PartLists) (games : List ℕ) (game : ℕ) (bytes : List ℕ) (kept : Entry) (change : Option BaseFault) : Type 0 where
+pub record KeepsWhole (way : Way) (index : List ℕ) (names : PartLists) (games : List ℕ) (game : ℕ) (bytes : List ℕ) (kept : Entry) (change : Option Change) : Type 0 where
   pub held : Held
-  pub place : place_of faulty names games game (entry_bytes index game) ≡ Ok (record { held = held; change = change })
+  pub place : place_of way names games game (entry_bytes index game) ≡ Ok (record { held = held; change = change })
   pub file : List ℕ
   pub stands : bytes ≡ record_in file (extent_of kept)
   pub keeps : Keeps (filled_names names) file kept held
 
 -- What was found of a game is its place. The record of one that comes over is the front of the buffer.
-abbrev pub Finds : Faulty → List ℕ → PartLists → Option (List ℕ) → ℕ → List ℕ → Find → Type 0
-Finds faulty index names told game buf (find.Whole kept change) = IfSome told (λ games. KeepsWhole faulty index names games game (take kept.len buf) kept change)
-Finds faulty index names told game buf (find.Broken fault) = IfSome told (λ games. place_of faulty names games game (entry_bytes index game) ≡ Err fault)
+abbrev pub Finds : Way → List ℕ → PartLists → Option (List ℕ) → ℕ → List ℕ → Find → Type 0
+Finds way index names told game buf (find.Whole kept change) = IfSome told (λ games. KeepsWhole way index names games game (take kept.len buf) kept change)
+Finds way index names told game buf (find.Broken fault) = IfSome told (λ games. place_of way names games game (entry_bytes index game) ≡ Err fault)
 
 -- An entry that a draft takes.
 pub record IsTakeable (e : Entry) : Type 0 where
@@ -65,9 +68,9 @@ pub record IsSaved (steps : ℕ) (e : Entry) (bytes : List ℕ) (fault : RecordF
   pub saved : saved_in steps bytes (Err fault) ≡ Some (record { bytes = left; read = (mended.1.1.0.tags, mended.1.1.0.tree) })
 
 -- What was found of a game whose record has this fault.
-pub record FindsSaved (faulty : Faulty) (game : ℕ) (e : Entry) (bytes : List ℕ) (fault : RecordFault) (left : List ℕ) (kept : Entry) (change : Option BaseFault) : Type 0 where
+pub record FindsSaved (faulty : Faulty) (game : ℕ) (e : Entry) (bytes : List ℕ) (fault : RecordFault) (left : List ℕ) (kept : Entry) (change : Option Change) : Type 0 where
   pub is_saved : IsSaved (steps_of faulty) e bytes fault left kept
-  pub change_is : change ≡ Some (Packed game fault)
+  pub change_is : change ≡ Some (why.Fault (Packed game fault))
 
 pub record FindsNothing (faulty : Faulty) (game : ℕ) (bytes : List ℕ) (fault : RecordFault) (other : BaseFault) : Type 0 where
   pub none_saved : saved_in (steps_of faulty) bytes (Err fault) ≡ None

@@ -12,7 +12,7 @@ use Rattle.name_base.specs.PartNames.{PartLists}
 use Rattle.mend_base.specs.Mending.{HasMended, IsTooMuch}
 use Rattle.mend_base.specs.declared.fault.MendError.{MendError}
 use Rattle.mend_base.specs.declared.fault.MendError.TheVariants as error
-use Rattle.mend_base.specs.declared.fronts.Faulty.{Faulty}
+use Rattle.mend_base.specs.declared.ways.Way.{Way}
 use Rattle.mend_base.specs.declared.report.Note.{Note}
 
 -- The new base would be full as the fact says, or a device failed, or memory ran out.
@@ -29,15 +29,15 @@ IsKeeping before after error.Memory = ⊤
 IsKeeping before after _ = ⊥
 
 -- Where the games before this one were mended, this one is too now, and so many more are changed.
-abbrev pub MendsNext : ℕ → Faulty → List ℕ → PartLists → List ℕ → Option (List Note) → Option (List Note) → ℕ → Kept → Kept → Option (List ℕ) → Option (List ℕ) → Type 0
-MendsNext game faulty index names games told now more draft after file fresh =
-    (header : IndexHead) (before : Option (List Note)) (changed : ℕ) → HasMended game header faulty index names games before told changed draft file →
-    HasMended (game + 1) header faulty index names games before now (changed + more) after fresh
+abbrev pub MendsNext : ℕ → Way → List ℕ → PartLists → List ℕ → Option (List Note) → Option (List Note) → ℕ → Kept → Kept → Option (List ℕ) → Option (List ℕ) → Type 0
+MendsNext game way index names games told now more draft after file fresh =
+    (header : IndexHead) (before : Option (List Note)) (changed : ℕ) → HasMended game header way index names games before told changed draft file →
+    HasMended (game + 1) header way index names games before now (changed + more) after fresh
 
 -- Where they were, the base of them with this one would be full.
-abbrev pub FillsNext : ℕ → Faulty → List ℕ → PartLists → List ℕ → Option (List Note) → Kept → Option (List ℕ) → What → Type 0
-FillsNext game faulty index names games told draft file what =
-    (header : IndexHead) (before : Option (List Note)) (changed : ℕ) → HasMended game header faulty index names games before told changed draft file → IsTooMuch faulty index names games what
+abbrev pub FillsNext : ℕ → Way → List ℕ → PartLists → List ℕ → Option (List Note) → Kept → Option (List ℕ) → What → Type 0
+FillsNext game way index names games told draft file what =
+    (header : IndexHead) (before : Option (List Note)) (changed : ℕ) → HasMended game header way index names games before told changed draft file → IsTooMuch way index names games what
 
 -- The new games file is the one that was made; where the draft stands for a base beside it, the new files mean the base and open as it.
 pub record PutsIt (draft : Kept) (old new : Seen) : Type 0 where

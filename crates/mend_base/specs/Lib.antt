@@ -1,4 +1,5 @@
 pub mod Entries
+pub mod Ways
 pub mod Errors
 pub mod Fields
 pub mod Marks
@@ -9,3 +10,4 @@ pub mod Notes
 pub mod Places
 pub mod Devices
 pub mod Keeping
+pub mod Loose

@@ -3,11 +3,13 @@ ghost use Rattle.std.specs.Prelude.{◌≡◌, ◌≤◌, ◌<◌, ◌+◌, ◌-
 ghost use Rattle.index_entry.specs.Index.{IsIndexHead, header_read};
 ghost use Rattle.mend_base.specs.Devices.{IsReport};
 ghost use Rattle.mend_base.specs.Entries.{entries_found, head_found, if_it_fits, renewed};
+ghost use Rattle.mend_base.specs.Loose.{front_notes_by};
 ghost use Rattle.mend_base.specs.Notes.{Began, notes_of_count, notes_of_fault, notes_of_head, notes_of_rest, with_notes};
 
 use crate::devices::tell;
 use crate::fault::MendError;
 use crate::report::{Note, Report};
+use crate::ways::Way;
 use base_core::BaseFault;
 use index_entry::{ENTRY_LEN, HEADER_LEN, IndexFault, IndexHead, read_header};
 
@@ -49,8 +51,8 @@ fn header_that_fits(index: &[u8], fault: IndexFault) -> Result<IndexHead, IndexF
     }
 }
 
-// The header of an index with the first ten bytes that an index has.
-fn renewed(index: &[u8]) -> [u8; HEADER_LEN]
+/// The header of an index with the first ten bytes that an index has.
+pub(crate) fn renewed(index: &[u8]) -> [u8; HEADER_LEN]
     requires long { 182 ≤ length index.now }
     ensures renewed { result ≡ renewed index.now }
 {
@@ -62,28 +64,40 @@ fn renewed(index: &[u8]) -> [u8; HEADER_LEN]
 
 /// How many whole entries an index has, and no more than a base can hold.
 pub(crate) fn entries_found(index: &[u8]) -> u32
-    requires long { 182 ≤ length index.now }
     ensures found { result ≡ entries_found index.now }
 {
-    ((index.len() - HEADER_LEN) / ENTRY_LEN).min(MAX_GAMES) as u32
+    (index.len().saturating_sub(HEADER_LEN) / ENTRY_LEN).min(MAX_GAMES) as u32
 }
 
 /// Tells of the index: the fault of its header if its entries are mended all the same, and that its header counts other games than it has.
 pub(crate) fn tell_header<R: Report>(
     report: &mut R,
+    way: Way,
     index: &[u8],
     header: &IndexHead,
 ) -> Result<(), MendError>
-    requires long { 182 ≤ length index.now }
-    ensures told { OnOk result (R.told report.new ≡ with_notes (R.told report.old) (notes_of_head index.now header.now)) }
-    ensures began { OnErr result (Began (notes_of_head index.now header.now) (R.told report.old) (R.told report.new)) }
+    ensures told { OnOk result (R.told report.new ≡ with_notes (R.told report.old) (notes_of_head way index.now header.now)) }
+    ensures began { OnErr result (Began (notes_of_head way index.now header.now) (R.told report.old) (R.told report.new)) }
     ensures counts { R.faults report.old ≤ R.faults report.new }
     ensures cause { IfErr result (IsReport (R.faults report.old) (R.faults report.new)) }
 {
     if let Err(error) = tell_fault(report, index) {
         return Err(error);
     }
-    tell_count(report, header.games, entries_found(index))
+    tell_count(report, header.games, way.known)
+}
+
+/// Tells the fault of the header of an index file that is lengthened, or why it has no entry.
+pub(crate) fn tell_front<R: Report>(report: &mut R, index: &[u8]) -> Result<(), MendError>
+    ensures told { OnOk result (R.told report.new ≡ with_notes (R.told report.old) (front_notes_by index.now (head_found index.now))) }
+    ensures not_told { OnErr result (R.told report.new ≡ R.told report.old) }
+    ensures counts { R.faults report.old ≤ R.faults report.new }
+    ensures cause { IfErr result (IsReport (R.faults report.old) (R.faults report.new)) }
+{
+    match find_header(index) {
+        Ok(_) => tell_fault(report, index),
+        Err(fault) => tell(report, &Note::Lost(fault)),
+    }
 }
 
 // Tells the fault of the header of an index whose entries are mended.
@@ -115,11 +129,11 @@ fn tell_count<R: Report>(report: &mut R, counted: u32, found: u32) -> Result<(),
 /// Tells of the games that the header of an index counts and that have no entry.
 pub(crate) fn tell_rest<R: Report>(
     report: &mut R,
+    way: Way,
     index: &[u8],
     header: &IndexHead,
 ) -> Result<(), MendError>
-    requires long { 182 ≤ length index.now }
-    ensures told { OnOk result (R.told report.new ≡ with_notes (R.told report.old) (notes_of_rest index.now header.now)) }
+    ensures told { OnOk result (R.told report.new ≡ with_notes (R.told report.old) (notes_of_rest way index.now header.now)) }
     ensures not_told { OnErr result (R.told report.new ≡ R.told report.old) }
     ensures counts { R.faults report.old ≤ R.faults report.new }
     ensures cause { IfErr result (IsReport (R.faults report.old) (R.faults report.new)) }
@@ -131,7 +145,7 @@ pub(crate) fn tell_rest<R: Report>(
     let note = Note::NotThere {
         first: found,
         last: header.games - 1,
-        fault: BaseFault::Index(IndexFault::Length(index.len() as u64)),
+        fault: BaseFault::Index(IndexFault::Length(way.len)),
     };
     tell(report, &note)
 }

@@ -17,9 +17,9 @@ ghost use Rattle.mend_base.specs.Notes.{notes_of_change, with_notes};
 
 use crate::devices::{append, tell};
 use crate::fault::{MendError, not_taken_error};
-use crate::finding::{Find, Source, find_game};
+use crate::finding::{Change, Find, Source, find_game};
 use crate::report::{Note, Report};
-use base_core::{BaseFault, Draft};
+use base_core::Draft;
 use base_files::Files;
 use index_entry::Entry;
 use name_base::PartNames;
@@ -43,12 +43,12 @@ pub(crate) fn mend_game<F: Files, N: Files, R: Report>(
     requires told { TellsLength (F.seen old.old).games source.now.end }
     requires few { length draft.old.entries < 16777214 }
     ensures mended { IfOk result (λ changed. IfSome (F.seen old.old).games (λ games.
-        MendsNext game source.now.faulty source.now.index.now source.now.names.now games (R.told report.old) (R.told report.new) changed draft.old draft.new (N.seen new.old).fresh (N.seen new.new).fresh)) }
+        MendsNext game source.now.way source.now.index.now source.now.names.now games (R.told report.old) (R.told report.new) changed draft.old draft.new (N.seen new.old).fresh (N.seen new.new).fresh)) }
     ensures one { IfOk result (λ changed. changed ≤ 1) }
     ensures few { OnOk result (length draft.new.entries ≤ length draft.old.entries + 1) }
     ensures none_told { OnErr result (R.told report.new ≡ R.told report.old) }
     ensures why { IfErr result (WhyStopped (λ what. IfSome (F.seen old.old).games (λ games.
-        FillsNext game source.now.faulty source.now.index.now source.now.names.now games (R.told report.old) draft.old (N.seen new.old).fresh what))) }
+        FillsNext game source.now.way source.now.index.now source.now.names.now games (R.told report.old) draft.old (N.seen new.old).fresh what))) }
     ensures alone { FreshAlone (N.seen new.old) (N.seen new.new) }
     ensures unchanged { F.seen old.new ≡ F.seen old.old }
     ensures asks { F.asked old.new ≤ F.asked old.old + entry_cost source.now.index.now game }
@@ -106,11 +106,11 @@ fn keep_game<N: Files>(
     append(new, pad, bytes)
 }
 
-// Tells the first fault for which a game is changed, if there is one, and gives how many games that changes.
+// Tells why a game is changed, if it is, and gives how many games that changes.
 fn tell_change<R: Report>(
     report: &mut R,
     game: u32,
-    change: Option<BaseFault>,
+    change: Option<Change>,
 ) -> Result<u32, MendError>
     ensures told { OnOk result (R.told report.new ≡ with_notes (R.told report.old) (notes_of_change game change)) }
     ensures changed { IfOk result (λ changed. changed ≡ (if is_some change then 1 else 0)) }
@@ -118,10 +118,12 @@ fn tell_change<R: Report>(
     ensures counts { R.faults report.old ≤ R.faults report.new }
     ensures cause { IfErr result (IsReport (R.faults report.old) (R.faults report.new)) }
 {
-    let Some(fault) = change else {
-        return Ok(0);
+    let note = match change {
+        None => return Ok(0),
+        Some(Change::Fault(fault)) => Note::Changed { game, fault },
+        Some(Change::Loose(place)) => Note::Took { game, place },
     };
-    if let Err(error) = tell(report, &Note::Changed { game, fault }) {
+    if let Err(error) = tell(report, &note) {
         return Err(error);
     }
     Ok(1)

@@ -14,6 +14,8 @@ use std::fmt;
 pub enum Note {
     /// The header of the index has this fault. Its entries are mended all the same.
     Tried(IndexFault),
+    /// No header of the index is found, for this fault, and so no entry.
+    Lost(IndexFault),
     /// The header counts so many games, and the index has so many whole entries.
     Counted {
         counted: u32,
@@ -29,6 +31,11 @@ pub enum Note {
         game: u32,
         fault: BaseFault,
     },
+    /// This game comes over as a record alone: the index has no entry of it. The record begins at this byte of the games file.
+    Took {
+        game: u32,
+        place: u32,
+    },
     /// The games from the first to the last of these do not come over: the index has no entries for them.
     NotThere {
         first: u32,
@@ -41,9 +48,16 @@ impl fmt::Display for Note {
     fn fmt<W: fmt::Write>(&self, f: &mut fmt::Formatter<W>) -> fmt::Result {
         match self {
             Note::Tried(fault) => write!(f, "index file: {fault}; its entries are tried"),
+            Note::Lost(fault) => write!(f, "index file: {fault}; no entry is known"),
             Note::Counted { counted, found } => write!(f, "counted {counted}, found {found}"),
             Note::LeftOut { game, fault } => write!(f, "left out {game}: {fault}"),
             Note::Changed { game, fault } => write!(f, "changed {game}: {fault}"),
+            Note::Took { game, place } => {
+                write!(
+                    f,
+                    "took {game}: games file: the record at byte {place}, which has no entry"
+                )
+            }
             Note::NotThere { first, last, fault } if first == last => {
                 write!(f, "left out {first}: {fault}")
             }

@@ -1,10 +1,11 @@
-//! The files of an old base of which the names or the games are not there.
+//! The files of an old base of which the index, the names or the games are not there.
 ghost use Rattle.std.specs.Prelude.{◌≡◌};
 ghost use Rattle.std_devices.specs.Meters.{seen_of};
 
 use crate::left_over::path_of;
 use crate::status::Status;
 use base_files::{Choices, DeviceError, Failed, FaultCount, Files, Part};
+use mend_base::Sought;
 use std::alloc::Global;
 use std::fs::File;
 use std::io::{ErrorKind, Read, Seek, SeekFrom};
@@ -20,19 +21,23 @@ const LONGEST_NAMES: u64 = 36 + 263 * (1_048_576 + 2 * 524_288 + 262_144);
 /// Which files of a base are not there.
 #[derive(Clone, Copy)]
 pub struct Absent {
+    pub index: bool,
     pub names: bool,
     pub games: bool,
 }
 
 impl Absent {
-    /// Which of the names and the games of a base are absent, if its index is there. If a file of it is set aside, none counts as
-    /// absent: a run was broken off.
-    pub fn of_base(rt: &HostRuntime, name: &str) -> Result<Absent, Status> {
+    /// Which files of a base are absent. None counts as absent if its index is, unless records without an entry are sought and its
+    /// games file is there. None does either if a file of it is set aside: a run was broken off.
+    pub fn of_base(rt: &HostRuntime, name: &str, search: Sought) -> Result<Absent, Status> {
         let none = Absent {
+            index: false,
             names: false,
             games: false,
         };
-        if is_absent(rt, name, "si4")? {
+        let index = is_absent(rt, name, "si4")?;
+        let games = is_absent(rt, name, "sg4")?;
+        if index && (search == Sought::Entries || games) {
             return Ok(none);
         }
         for ending in ["si4.old", "sn4.old", "sg4.old"] {
@@ -41,14 +46,15 @@ impl Absent {
             }
         }
         Ok(Absent {
+            index,
             names: is_absent(rt, name, "sn4")?,
-            games: is_absent(rt, name, "sg4")?,
+            games,
         })
     }
 
     /// Whether any is.
     pub fn is_any(&self) -> bool {
-        self.names || self.games
+        self.index || self.names || self.games
     }
 }
 
@@ -175,7 +181,11 @@ fn opened(
     name: &str,
     absent: Absent,
 ) -> Result<(Option<File>, Option<File>, Option<File>), Status> {
-    let index = open_file(rt, name, "si4")?;
+    let index = if absent.index {
+        None
+    } else {
+        open_file(rt, name, "si4")?
+    };
     let names = if absent.names {
         None
     } else {

@@ -1,4 +1,4 @@
-//! `scid_mend [--fronts] OLD NEW`: makes the Scid base NEW of every game of OLD that is whole, and says on standard output what becomes of the others.
+//! `scid_mend [--fronts] [--loose] OLD NEW`: makes the Scid base NEW of every game of OLD that is whole, and says on standard output what becomes of the others.
 #![tactic(auto)]
 
 ghost use Rattle.std.specs.Prelude.{◌≡◌, MatchResult};
@@ -15,7 +15,7 @@ use absent::{Absent, PartFiles};
 use back::put_back;
 use base_files::Files;
 use left_over::take_away_left_over;
-use mend_base::{Faulty, mend};
+use mend_base::{Faulty, Sought, mend};
 use messages::{HELP, VERSION, message};
 use printer::Printer;
 use status::Status;
@@ -45,18 +45,38 @@ fn words(rt: &HostRuntime) -> Result<Vec<String>, Status> {
     }
 }
 
+/// What is taken of a base besides the games whose records are whole.
+#[derive(Clone, Copy)]
+struct Taken {
+    faulty: Faulty,
+    search: Sought,
+}
+
 /// Answers the single words `--help` and `--version`, and mends for two names of bases.
 fn answer(rt: &HostRuntime, words: &[String]) -> Status {
     match words {
         [word] if word.as_str() == "--help" => printed(print!(rt; "{HELP}")),
         [word] if word.as_str() == "--version" => printed(print!(rt; "{VERSION}")),
         [word, base] if word.as_str() == "--back" && is_name(base) => put_back(rt, base),
-        [old, new] if is_name(old) && is_name(new) => run(rt, Faulty::LeftOut, old, new),
-        [word, old, new] if word.as_str() == "--fronts" && is_name(old) && is_name(new) => {
-            run(rt, Faulty::Fronts, old, new)
-        }
-        _ => Status::Usage,
+        _ => mend_by(rt, words),
     }
+}
+
+/// Mends for two names of bases, with the options in front of them.
+fn mend_by(rt: &HostRuntime, words: &[String]) -> Status {
+    let mut taken = Taken {
+        faulty: Faulty::LeftOut,
+        search: Sought::Entries,
+    };
+    for (place, word) in words.iter().enumerate() {
+        match (word.as_str(), &words[place..]) {
+            ("--fronts", _) => taken.faulty = Faulty::Fronts,
+            ("--loose", _) => taken.search = Sought::Records,
+            (_, [old, new]) if is_name(old) && is_name(new) => return run(rt, taken, old, new),
+            _ => return Status::Usage,
+        }
+    }
+    Status::Usage
 }
 
 /// Whether a word may be the name of a base.
@@ -74,10 +94,10 @@ fn printed(outcome: io::Result<()>) -> Status
     }
 }
 
-/// Opens the old base, and mends it. If its names or its games are absent, they are as files of no bytes, and a message
+/// Opens the old base, and mends it. If files of it are absent, they are as files of no bytes, and a message
 /// tells it.
-fn run(rt: &HostRuntime, faulty: Faulty, old: &str, new: &str) -> Status {
-    let absent = match Absent::of_base(rt, old) {
+fn run(rt: &HostRuntime, taken: Taken, old: &str, new: &str) -> Status {
+    let absent = match Absent::of_base(rt, old, taken.search) {
         Ok(absent) => absent,
         Err(status) => return status,
     };
@@ -86,7 +106,7 @@ fn run(rt: &HostRuntime, faulty: Faulty, old: &str, new: &str) -> Status {
         let files = PartFiles::new(rt, absent);
         run_over(
             rt,
-            faulty,
+            taken,
             Watched::new(files, &line),
             old,
             new,
@@ -97,7 +117,7 @@ fn run(rt: &HostRuntime, faulty: Faulty, old: &str, new: &str) -> Status {
         let files = DiskFiles::of_faulty_base(rt.alloc(), rt);
         run_over(
             rt,
-            faulty,
+            taken,
             Watched::new(files, &line),
             old,
             new,
@@ -110,7 +130,7 @@ fn run(rt: &HostRuntime, faulty: Faulty, old: &str, new: &str) -> Status {
 /// Makes the files of the new base, mends, and takes them away again where that fails.
 fn run_over<F: Files + Drop>(
     rt: &HostRuntime,
-    faulty: Faulty,
+    taken: Taken,
     mut old_files: F,
     old: &str,
     new: &str,
@@ -124,15 +144,7 @@ fn run_over<F: Files + Drop>(
         return status;
     }
     let mut new_files = Watched::new(DiskFiles::of_new_base(rt.alloc(), rt), line);
-    let outcome = mend_files(
-        rt,
-        faulty,
-        &mut old_files,
-        &mut new_files,
-        new,
-        absent,
-        line,
-    );
+    let outcome = mend_files(rt, taken, &mut old_files, &mut new_files, new, absent, line);
     line.clear();
     let mut new_files = new_files.into_device();
     match outcome {
@@ -150,7 +162,7 @@ fn run_over<F: Files + Drop>(
 /// Mends the old base into the new one, and says how many games came over.
 fn mend_files<F: Files, N: Files>(
     rt: &HostRuntime,
-    faulty: Faulty,
+    taken: Taken,
     old: &mut F,
     new: &mut N,
     name: &str,
@@ -176,7 +188,8 @@ fn mend_files<F: Files, N: Files>(
     }
     match mend(
         rt.alloc(),
-        faulty,
+        taken.faulty,
+        taken.search,
         old,
         new,
         &mut printer,

@@ -6,7 +6,7 @@ use crate::status::Status;
 
 /// The answer to `--help`.
 pub const HELP: &str = "\
-usage: scid_mend [--fronts] OLD NEW
+usage: scid_mend [--fronts] [--loose] OLD NEW
        scid_mend --back BASE
 
 Makes the Scid base NEW.si4, NEW.sn4, NEW.sg4 of every game of the base OLD
@@ -31,6 +31,15 @@ With --fronts a game comes over too whose record has a fault, as changed: each
 line with a fault, the main line or a variation, ends before its first fault,
 with a comment that says so.
 
+With --loose the records come over too that no entry names, behind the others:
+each one that is whole and stands between the records of the entries. Such a
+game has its tags, moves and comments, but no head. It is told of as
+
+  took G: games file: the record at byte N, which has no entry
+
+and counts as changed. An index without a header, or that is not there, is as
+one of no games then.
+
 With --back it puts right what a run left beside BASE that was broken off: it
 puts the files back that a compact had set aside, or finishes a compact whose
 new files all have their places, takes away the others, and says which it did.
@@ -53,7 +62,7 @@ pub fn message(status: &Status) -> &'static str
         Status::WriteFault => "write fault",
         Status::FilesFault => "files fault",
         Status::Memory => "out of memory",
-        Status::Usage => "usage: scid_mend [--fronts] OLD NEW",
+        Status::Usage => "usage: scid_mend [--fronts] [--loose] OLD NEW",
         Status::Full(_) => "full ",
     }
 }

@@ -39,6 +39,9 @@ impl<'p, W: Write> Printer<'p, W> {
 
     /// Writes a line for each file of the old base that is not there.
     pub fn tell_absent(&mut self, absent: Absent) -> io::Result<()> {
+        if absent.index {
+            writeln!(self.writer, "index file: not there")?;
+        }
         if absent.names {
             writeln!(self.writer, "names file: not there; no name is known")?;
         }

@@ -8,7 +8,7 @@ use Rattle.mend_base.proofs.finding.find_game.Goals as goal
 
 pub returns-in-Some-clause-found : goal.returns-in-Some-clause-found
 returns-in-Some-clause-found g c =
-    unread-place (g.F.Files.seen c.args.old.now).games c.args.source.now.faulty c.args.source.now.index.now c.args.source.now.names.now c.args.source.now.end c.args.game c.entry_of_game-change.result.0 c.in-Some.what c.requires.told
+    unread-place (g.F.Files.seen c.args.old.now).games c.args.source.now.way c.args.source.now.index.now c.args.source.now.names.now c.args.source.now.end c.args.game c.entry_of_game-change.result.0 c.in-Some.what c.requires.told
     c.entry_of_game-change.ensures.known c.in-Some.ensures.first
 
 pub read_games-requires-clause-within : goal.read_games-requires-clause-within
@@ -32,7 +32,7 @@ returns-in-Ok-clause-found g c =
     let entry = c.entry_of_game-change.result.0 in
     let T : ℕ → Type 0 = λ n. Tells (part_told (g.F.Files.seen c.args.old.now).games n entry.len) (take entry.len c.read_games.new.into) in
     let tells = subst T c.from.ensures (from_ok c.read_games.result (T c.from.result) c.if-is_err.ensures.value c.read_games.ensures.bytes) in
-    whole-found (g.F.Files.seen c.args.old.now).games c.args.source.now.faulty c.args.source.now.index.now c.args.source.now.names.now c.args.source.now.end c.args.game c.read_games.new.into entry c.in-Ok.kept
+    whole-found (g.F.Files.seen c.args.old.now).games c.args.source.now.way c.args.source.now.index.now c.args.source.now.names.now c.args.source.now.end c.args.game c.read_games.new.into entry c.in-Ok.kept
     c.entry_of_game-change.result.1 c.requires.told tells c.entry_of_game-change.ensures.known c.in_default.ensures.first c.entry_of_game-change.ensures.change c.in-Ok.ensures.mended
 
 pub returns-in-Err-clause-found : goal.returns-in-Err-clause-found
@@ -41,6 +41,6 @@ returns-in-Err-clause-found g c =
     let T : ℕ → Type 0 = λ n. Tells (part_told (g.F.Files.seen c.args.old.now).games n entry.len) (take entry.len c.read_games.new.into) in
     let tells = subst T c.from.ensures (from_ok c.read_games.result (T c.from.result) c.if-is_err.ensures.value c.read_games.ensures.bytes) in
     if-ok-weaker _ _ c.find_left.result
-    (λ find found. left-found (g.F.Files.seen c.args.old.now).games c.args.source.now.faulty c.args.source.now.index.now c.args.source.now.names.now c.args.source.now.end c.args.game c.find_left.new.buf
+    (λ find found. left-found (g.F.Files.seen c.args.old.now).games c.args.source.now.way c.args.source.now.index.now c.args.source.now.names.now c.args.source.now.end c.args.game c.find_left.new.buf
     (take entry.len c.read_games.new.into) entry c.in-Err.fault find c.requires.told tells c.entry_of_game-change.ensures.known c.in_default.ensures.first c.in-Err.ensures.fault.answer found)
     c.find_left.ensures.found

@@ -1,5 +1,5 @@
-use Rattle.mend_base.proofs.WholeLaws.{over}
+use Rattle.mend_base.proofs.WholeLaws.{comes}
 use Rattle.mend_base.proofs.laws.sound_bases_come_over.Goals as goal
 
 pub returns : goal.returns
-returns c = record { over = over }
+returns c = record { over = comes }

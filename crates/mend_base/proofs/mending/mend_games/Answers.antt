@@ -11,21 +11,21 @@ use Rattle.mend_base.proofs.mending.mend_games.Goals as goal
 
 pub returns-in-Err-clause-began : goal.returns-in-Err-clause-began
 returns-in-Err-clause-began g c =
-    began-here (g.F.Files.seen c.args.old.now).games (entries_found c.args.source.now.index.now) c.args.source.now.faulty c.args.source.now.index.now c.args.source.now.names.now (g.R.Report.told c.args.report.now) (g.R.Report.told c.args.report.now) refl
+    began-here (g.F.Files.seen c.args.old.now).games (entries_found c.args.source.now.index.now) c.args.source.now.way c.args.source.now.index.now c.args.source.now.names.now (g.R.Report.told c.args.report.now) (g.R.Report.told c.args.report.now) refl
 
 pub loop-game-init : goal.loop-game-init
 loop-game-init g c =
     let old = (g.F.Files.seen c.args.old.now).games in
-    let faulty = c.args.source.now.faulty in
+    let way = c.args.source.now.way in
     let index = c.args.source.now.index.now in
     let names = c.args.source.now.names.now in
     let told = g.R.Report.told c.args.report.now in
     let fresh : (g.N.Files.seen c.begin.new.new).fresh ≡ told_instead [] (g.N.Files.seen c.args.new.now).games = ap (λ (s : Seen). s.fresh) c.in_default.ensures.begun in
     let none : length c.begin-draft.result.entries ≡ 0 = ap (λ (k : Kept). length k.entries) c.begin-draft.ensures.empty in
-    let M : Kept → Option (List ℕ) → Type 0 = λ k f. IfSome old (λ games. HasMended 0 c.args.header.now faulty index names games told told 0 k f) in
+    let M : Kept → Option (List ℕ) → Type 0 = λ k f. IfSome old (λ games. HasMended 0 c.args.header.now way index names games told told 0 k f) in
     record {
       mended = subst (λ (f : Option (List ℕ)). M c.begin-draft.result f) (sym fresh)
-          (subst (λ (k : Kept). M k (told_instead [] (g.N.Files.seen c.args.new.now).games)) (sym c.begin-draft.ensures.empty) (none-told old c.args.header.now faulty index names told (g.N.Files.seen c.args.new.now).games));
+          (subst (λ (k : Kept). M k (told_instead [] (g.N.Files.seen c.args.new.now).games)) (sym c.begin-draft.ensures.empty) (none-told old c.args.header.now way index names told (g.N.Files.seen c.args.new.now).games));
       few = omega (arith, none);
       small = omega arith;
       within = omega arith;
@@ -44,15 +44,15 @@ returns-in-Err-mend_game-clause-asks g c =
 
 pub loop-game-preserved : goal.loop-game-preserved
 loop-game-preserved g c =
-    let faulty = c.args.source.now.faulty in
+    let way = c.args.source.now.way in
     let index = c.args.source.now.index.now in
     let names = c.args.source.now.names.now in
     let same : (g.F.Files.seen c.loop-game.old).games ≡ (g.F.Files.seen c.args.old.now).games = ap (λ (s : Seen). s.games) c.loop-game.invariant.unchanged in
     let told = g.R.Report.told c.loop-game.report in
     let N : Option (List ℕ) → Type 0 =
-    λ o. IfSome o (λ games. MendsNext c.loop-game.game faulty index names games told (g.R.Report.told c.mend_game.new.report) c.in-Ok.more c.loop-game.draft c.mend_game.new.draft (g.N.Files.seen c.loop-game.new).fresh (g.N.Files.seen c.mend_game.new.new).fresh) in
+    λ o. IfSome o (λ games. MendsNext c.loop-game.game way index names games told (g.R.Report.told c.mend_game.new.report) c.in-Ok.more c.loop-game.draft c.mend_game.new.draft (g.N.Files.seen c.loop-game.new).fresh (g.N.Files.seen c.mend_game.new.new).fresh) in
     record {
-      mended = next-told (g.F.Files.seen c.args.old.now).games c.loop-game.game c.args.header.now faulty index names (g.R.Report.told c.args.report.now) told (g.R.Report.told c.mend_game.new.report) c.loop-game.changed c.in-Ok.more c.loop-game.draft c.mend_game.new.draft
+      mended = next-told (g.F.Files.seen c.args.old.now).games c.loop-game.game c.args.header.now way index names (g.R.Report.told c.args.report.now) told (g.R.Report.told c.mend_game.new.report) c.loop-game.changed c.in-Ok.more c.loop-game.draft c.mend_game.new.draft
           (g.N.Files.seen c.loop-game.new).fresh (g.N.Files.seen c.mend_game.new.new).fresh c.loop-game.invariant.mended (subst N same c.in-Ok.ensures.mended);
       few = omega (arith, c.in-Ok.ensures.few, c.loop-game.invariant.few);
       small = omega (arith, c.in-Ok.ensures.one, c.loop-game.invariant.small);
@@ -68,21 +68,21 @@ loop-game-preserved g c =
 
 pub returns-in-Err-mend_game-clause-began : goal.returns-in-Err-mend_game-clause-began
 returns-in-Err-mend_game-clause-began g c =
-    let faulty = c.args.source.now.faulty in
+    let way = c.args.source.now.way in
     let index = c.args.source.now.index.now in
-    began-told (g.F.Files.seen c.args.old.now).games c.loop-game.game (entries_found index) c.args.header.now c.args.source.now.faulty index c.args.source.now.names.now (g.R.Report.told c.args.report.now) (g.R.Report.told c.loop-game.report)
+    began-told (g.F.Files.seen c.args.old.now).games c.loop-game.game (entries_found index) c.args.header.now c.args.source.now.way index c.args.source.now.names.now (g.R.Report.told c.args.report.now) (g.R.Report.told c.loop-game.report)
     (g.R.Report.told c.mend_game.new.report) c.loop-game.changed c.loop-game.draft (g.N.Files.seen c.loop-game.new).fresh c.in-Err-mend_game.ensures.none_told c.loop-game.invariant.within c.loop-game.invariant.mended
 
 pub returns-in-Err-mend_game-clause-why : goal.returns-in-Err-mend_game-clause-why
 returns-in-Err-mend_game-clause-why g c =
-    let faulty = c.args.source.now.faulty in
+    let way = c.args.source.now.way in
     let index = c.args.source.now.index.now in
     let names = c.args.source.now.names.now in
     let same : (g.F.Files.seen c.loop-game.old).games ≡ (g.F.Files.seen c.args.old.now).games = ap (λ (s : Seen). s.games) c.loop-game.invariant.unchanged in
     let told = g.R.Report.told c.loop-game.report in
     let fresh = (g.N.Files.seen c.loop-game.new).fresh in
-    let fills : What → Option (List ℕ) → Type 0 = λ what o. IfSome o (λ games. FillsNext c.loop-game.game faulty index names games told c.loop-game.draft fresh what) in
+    let fills : What → Option (List ℕ) → Type 0 = λ what o. IfSome o (λ games. FillsNext c.loop-game.game way index names games told c.loop-game.draft fresh what) in
     stopped-weaker _ _
-    (λ what full. fills-told (g.F.Files.seen c.args.old.now).games c.loop-game.game c.args.header.now faulty index names (g.R.Report.told c.args.report.now) told c.loop-game.changed c.loop-game.draft fresh what c.loop-game.invariant.mended
+    (λ what full. fills-told (g.F.Files.seen c.args.old.now).games c.loop-game.game c.args.header.now way index names (g.R.Report.told c.args.report.now) told c.loop-game.changed c.loop-game.draft fresh what c.loop-game.invariant.mended
     (subst (fills what) same full))
     c.in-Err-mend_game.error c.in-Err-mend_game.ensures.why

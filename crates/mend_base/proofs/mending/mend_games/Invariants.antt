@@ -9,7 +9,7 @@ use Rattle.mend_base.proofs.mending.mend_games.Given as goal
 abbrev pub invariant-loop-game : goal.invariant-loop-game
 invariant-loop-game g l = record {
   mended : IfSome (g.F.Files.seen l.fn.old).games (λ games.
-      HasMended l.game l.fn.header l.fn.source.faulty l.fn.source.index.now l.fn.source.names.now games (g.R.Report.told l.fn.report) (g.R.Report.told l.report) l.changed l.draft (g.N.Files.seen l.new).fresh);
+      HasMended l.game l.fn.header l.fn.source.way l.fn.source.index.now l.fn.source.names.now games (g.R.Report.told l.fn.report) (g.R.Report.told l.report) l.changed l.draft (g.N.Files.seen l.new).fresh);
   few : length l.draft.entries ≤ l.game;
   small : l.changed ≤ l.game;
   within : l.game ≤ entries_found l.fn.source.index.now;

@@ -6,9 +6,9 @@ use Rattle.mend_base.proofs.mending.mend_loaded.Goals as goal
 
 pub returns-in-Err-clause-began : goal.returns-in-Err-clause-began
 returns-in-Err-clause-began g c =
-    began-nothing (g.F.Files.seen c.args.old.now).games c.args.faulty c.args.loaded.now.index.items (names_in_part c.args.loaded.now.names.items) (g.R.Report.told c.args.report.now) (g.R.Report.told c.args.report.now) refl
+    began-nothing (g.F.Files.seen c.args.old.now).games c.args.way c.args.loaded.now.index.items (names_in_part c.args.loaded.now.names.items) (g.R.Report.told c.args.report.now) (g.R.Report.told c.args.report.now) refl
 
 pub returns-in_err-names-clause-began : goal.returns-in_err-names-clause-began
 returns-in_err-names-clause-began g c =
     on-err-any _ c.from_residual.result
-    (began-nothing (g.F.Files.seen c.args.old.now).games c.args.faulty c.args.loaded.now.index.items (names_in_part c.args.loaded.now.names.items) (g.R.Report.told c.args.report.now) (g.R.Report.told c.args.report.now) refl)
+    (began-nothing (g.F.Files.seen c.args.old.now).games c.args.way c.args.loaded.now.index.items (names_in_part c.args.loaded.now.names.items) (g.R.Report.told c.args.report.now) (g.R.Report.told c.args.report.now) refl)
