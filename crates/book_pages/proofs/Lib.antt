@@ -6,3 +6,4 @@ mod HereLemmas
 mod GameLemmas
 mod CountLemmas
 mod ReachLemmas
+mod OrderLemmas
