@@ -7,3 +7,4 @@ mod GameLemmas
 mod CountLemmas
 mod ReachLemmas
 mod OrderLemmas
+mod HomeLemmas
