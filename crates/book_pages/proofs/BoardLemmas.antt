@@ -1,16 +1,20 @@
--- How many men boards have at least.
-use Rattle.std.proofs.Common.{◌≡◌, ◌<◌, ◌≤◌, ◌+◌, ℕ, false, List, get_or, length, Some, take, ap, subst, arith, inl, inr}
+-- What boards have at least.
+use Rattle.std.proofs.Common.{◌≡◌, ◌<◌, ◌≤◌, ◌+◌, ℕ, true, false, List, get_or, length, Some, take, sym, ap, subst, arith, inl, inr}
 use Rattle.std.specs.Prelude.{All, max, min, slice_get}
 use Rattle.std.proofs.lemmas.Bool.{cases_Bool}
 use Rattle.std.proofs.lemmas.List.Elements.{All-more}
 use Rattle.std.proofs.lemmas.Option.{get_or_from_slice_get, slice_get_within}
 use Rattle.cell_core.specs.Packed.{ArePacked, Packed}
+use Rattle.cell_core.specs.Board.{Men}
+use Rattle.chess_laws.specs.Counts.{is_home}
 use Rattle.chess_laws.specs.Position.{Sound}
 use Rattle.game_tree.specs.Game.{GameTree}
 use Rattle.game_tree.specs.Legal.{IsLegalGame}
 use Rattle.game_tree.specs.Replay.{position_at}
 use Rattle.pos_search.specs.Matching.{matches_at}
-use Rattle.book_pages.specs.Keeping.{AreMetNoMore, IsBoard, men_in, query_of}
+use Rattle.sig_index.proofs.PrefixLemmas.{stood_before}
+use Rattle.book_pages.specs.Keeping.{AreMetNoMore, HasHomes, IsBoard, IsPast, men_in, query_of}
+use Rattle.book_pages.proofs.HomeLemmas.{no_part}
 use Rattle.book_pages.proofs.MenLemmas.{men_fall}
 use Rattle.book_pages.proofs.PlaceLemmas.{matched, no_board}
 
@@ -33,19 +37,28 @@ greater a b c is = (grind (arith, is), grind (arith, is))
 pub each_packed : (fewest : ℕ) (boards : List Packed) → All (IsBoard fewest) boards → All (λ (board : Packed). ArePacked board.cells) boards
 each_packed fewest boards all = λ i d less. (all i d less).packed
 
--- Where fewer men are left than on each board, no position of the game stands on one from then on.
-pub none_later : (fewest : ℕ) (boards : List Packed) (game : GameTree) (ply later k : ℕ) (board : Packed) → All (IsBoard fewest) boards
-    → men_in (position_at game ply).board < fewest → Sound game.start → IsLegalGame game → ply ≤ later → slice_get boards k ≡ Some board
-    → matches_at (query_of board) game later ≡ false
-none_later fewest boards game ply later k board all few sound legal from there = elim (cases_Bool (matches_at (query_of board) game later)) [
+-- Where a game is past the boards, no position of it stands on one from then on: a pawn at home stood there before.
+pub none_later : (fewest : ℕ) (homes : List ℕ) (boards : List Packed) (game : GameTree) (ply later k : ℕ) (board : Packed) → All (IsBoard fewest) boards
+    → All (HasHomes homes) boards → IsPast fewest homes (position_at game ply).board → Sound game.start → IsLegalGame game → ply ≤ later
+    → ((v : ℕ) → v < 16 → is_home (position_at game later).board v ≡ true → is_home (position_at game ply).board v ≡ true)
+    → slice_get boards k ≡ Some board → matches_at (query_of board) game later ≡ false
+none_later fewest homes boards game ply later k board all have past sound legal from stood there = elim (cases_Bool (matches_at (query_of board) game later)) [
   | inr fails ↦ fails
   | inl holds ↦
-      let is : IsBoard fewest board = subst (IsBoard fewest) (get_or_from_slice_get boards k board no_board there) (all k no_board (slice_get_within boards k board there)) in
+      let within = slice_get_within boards k board there in
+      let same = get_or_from_slice_get boards k board no_board there in
+      let is : IsBoard fewest board = subst (IsBoard fewest) same (all k no_board within) in
+      let has : HasHomes homes board = subst (HasHomes homes) same (have k no_board within) in
       let on = matched board (position_at game later) holds in
-      absurd (omega (arith, is.men, few, men_fall game ply later sound legal from, ap men_in on.1))
+      elim past [
+        | inl few ↦ absurd (omega (arith, is.men, few, men_fall game ply later sound legal from, ap men_in on.1))
+        | inr less ↦ absurd (no_part homes board (position_at game ply).board has less
+            (λ v small home. stood v small (subst (λ (men : Men). is_home men v ≡ true) (sym on.1) home)))
+      ]
 ]
 
-pub no_more : (fewest : ℕ) (boards : List Packed) (game : GameTree) (ply : ℕ) → All (IsBoard fewest) boards
-    → men_in (position_at game ply).board < fewest → Sound game.start → IsLegalGame game → AreMetNoMore boards game ply
-no_more fewest boards game ply all few sound legal = λ k later board there after within.
-    none_later fewest boards game ply later k board all few sound legal (omega (arith, after)) there
+pub no_more : (fewest : ℕ) (homes : List ℕ) (boards : List Packed) (game : GameTree) (ply : ℕ) → All (IsBoard fewest) boards → All (HasHomes homes) boards
+    → IsPast fewest homes (position_at game ply).board → Sound game.start → IsLegalGame game → AreMetNoMore boards game ply
+no_more fewest homes boards game ply all have past sound legal = λ k later board there after within.
+    none_later fewest homes boards game ply later k board all have past sound legal (omega (arith, after))
+    (λ v small home. stood_before game v ply later sound legal small (omega (arith, after)) within home) there

@@ -1,5 +1,5 @@
 -- What one position adds to the tallies of boards.
-use Rattle.std.proofs.Common.{◌≡◌, ◌<◌, ◌≤◌, ◌+◌, ℕ, Bool, true, false, List, length, Option, None, Some, refl, sym, ap, ◌∙◌, subst, arith}
+use Rattle.std.proofs.Common.{◌≡◌, ◌≤◌, ◌+◌, ℕ, Bool, true, false, List, length, Option, None, Some, refl, sym, ap, ◌∙◌, subst, arith}
 use Rattle.std.specs.Prelude.{All, slice_get}
 use Rattle.std.proofs.lemmas.Option.{slice_get_within}
 use Rattle.cell_core.specs.declared.man.Colour.{Colour}
@@ -17,7 +17,7 @@ use Rattle.tree_rows.specs.Hits.{hit_from}
 use Rattle.tree_rows.specs.MoveText.{IsKey}
 use Rattle.tree_rows.specs.declared.hit.GameHit.{GameHit}
 use Rattle.book_pages.specs.declared.counting.Counted.{Counted}
-use Rattle.book_pages.specs.Keeping.{AreMetAt, AreMetNoMore, AreTallies, IsBoard, IsHere, Tallied, hit_at, is_at, men_in, query_of}
+use Rattle.book_pages.specs.Keeping.{AreMetAt, AreMetNoMore, AreTallies, HasHomes, IsBoard, IsHere, IsPast, Tallied, hit_at, is_at, query_of}
 use Rattle.book_pages.proofs.BoardLemmas.{none_later}
 use Rattle.book_pages.proofs.MeetLemmas.{kept_here}
 use Rattle.book_pages.proofs.PlaceLemmas.{matched}
@@ -43,12 +43,13 @@ same_hit true there i hit other before after is at same =
     subst (λ (h : GameHit). IsHere true i h before after) (same refl) (subst (λ (t : Bool). IsHere t i hit before after) (sym at) is)
 same_hit false there i hit other before after is at same = subst (λ (t : Bool). IsHere t i hit before after) (sym at) is
 
--- Where too few men are left nothing is met.
-pub few_met : (fewest : ℕ) (boards : List Packed) (counted : Counted) (game : GameTree) (ply : ℕ) (tallies : List Tallied) → All (IsBoard fewest) boards
-    → men_in (position_at game ply).board < fewest → Sound game.start → IsLegalGame game → AreMetAt boards counted game ply tallies tallies
-few_met fewest boards counted game ply tallies all few sound legal = λ k board before after is_board is_before is_after.
+-- Where a game is past the boards nothing is met.
+pub past_met : (fewest : ℕ) (homes : List ℕ) (boards : List Packed) (counted : Counted) (game : GameTree) (ply : ℕ) (tallies : List Tallied)
+    → All (IsBoard fewest) boards → All (HasHomes homes) boards → IsPast fewest homes (position_at game ply).board → Sound game.start → IsLegalGame game
+    → AreMetAt boards counted game ply tallies tallies
+past_met fewest homes boards counted game ply tallies all have past sound legal = λ k board before after is_board is_before is_after.
     stays (matches_at (query_of board) game ply) counted.number (hit_at counted board.side game ply) before after
-    (none_later fewest boards game ply ply k board all few sound legal (omega arith) is_board)
+    (none_later fewest homes boards game ply ply k board all have past sound legal (omega arith) (λ v small home. home) is_board)
     (let same : Some after ≡ Some before = sym is_after ∙ is_before in cc)
 
 -- The position is met on its board.

@@ -6,3 +6,5 @@ mod HereLemmas
 mod GameLemmas
 mod CountLemmas
 mod ReachLemmas
+mod OrderLemmas
+mod HomeLemmas

@@ -1,11 +1,13 @@
 -- What is kept of the pages while games are counted. Only models and private functions cite these words.
-use Rattle.std.specs.Prelude.{◌≡◌, ◌≤◌, ◌<◌, ℕ, zero, suc, ◌+◌, ◌==◌, ◌∷◌, [], ◌++◌, All, true, false, if◌then◌else◌, Bool, List, Option, Some, None, length, option_map, slice_get, sum, ⊤}
+use Rattle.std.specs.Prelude.{◌≡◌, ◌≤◌, ◌<◌, ◌⊎◌, ◌↔◌, IsBitSet, IsTrue, ℕ, zero, suc, ◌+◌, ◌^◌, ◌==◌, ◌∷◌, [], ◌++◌, All, true, false, if◌then◌else◌, Bool, List, Option, Some, None, length, option_map, slice_get, slice_index_or, sum, ⊤}
+use Rattle.std.specs.Int.RustNames.{bit_and}
+use Rattle.std.specs.List.{list_any}
 use Rattle.std.specs.Option.{option_or}
 use Rattle.cell_core.specs.declared.man.Colour.{Colour}
 use Rattle.cell_core.specs.declared.step.Move.{Move}
 use Rattle.cell_core.specs.Board.{Men}
 use Rattle.cell_core.specs.Packed.{ArePacked, Packed, men_of}
-use Rattle.chess_laws.specs.Counts.{counts_of}
+use Rattle.chess_laws.specs.Counts.{counts_of, is_home}
 use Rattle.game_tree.specs.Game.{GameTree}
 use Rattle.game_tree.specs.Replay.{next_at, plies_of, position_at}
 use Rattle.game_tree.specs.declared.head.Head.{Head}
@@ -113,6 +115,38 @@ men_in men = sum (counts_of men)
 pub record IsBoard (fewest : ℕ) (board : Packed) : Type 0 where
   pub packed : ArePacked board.cells
   pub men : fewest ≤ men_in (men_of board.cells)
+
+-- Whether all bits of a set are in another.
+abbrev pub is_part : ℕ → ℕ → Bool
+is_part set part = bit_and part set == part
+
+-- One of these sets has the home values of pawns of a board, and no others.
+pub record HasHomes (homes : List ℕ) (board : Packed) : Type 0 where
+  pub place : ℕ
+  pub within : place < length homes
+  pub small : slice_index_or homes place 0 < 2 ^ 16
+  pub home : (v : ℕ) → v < 16 → IsBitSet (slice_index_or homes place 0) v → IsTrue (is_home (men_of board.cells) v)
+
+-- One of these sets is a part of another.
+pub record HasPart (homes : List ℕ) (set : ℕ) : Type 0 where
+  pub place : ℕ
+  pub within : place < length homes
+  pub part : bit_and (slice_index_or homes place 0) set ≡ slice_index_or homes place 0
+
+-- These sets stay in their places.
+abbrev pub StayHomes : List ℕ → List ℕ → Type 0
+StayHomes old new = (place : ℕ) → place < length old → (place < length new) × (slice_index_or new place 0 ≡ slice_index_or old place 0)
+
+-- None of them has only home values of pawns of these men.
+pub record HasNoHomes (homes : List ℕ) (men : Men) : Type 0 where
+  pub set : ℕ
+  pub small : set < 2 ^ 16
+  pub bits : (v : ℕ) → v < 16 → (IsBitSet set v ↔ IsTrue (is_home men v))
+  pub none : list_any (is_part set) homes ≡ false
+
+-- A game that stands here comes to none of the boards any more.
+abbrev pub IsPast : ℕ → List ℕ → Men → Type 0
+IsPast fewest homes men = (men_in men < fewest) ⊎ HasNoHomes homes men
 
 -- The boards of the pages: no two are the same.
 pub record AreBoards {S : Type 0} (boards : IndexSet Packed S) (fewest : ℕ) : Type 0 where

@@ -5,3 +5,4 @@ pub mod Book
 pub mod Reached
 pub mod Keeping
 pub mod Meeting
+pub mod Order

@@ -6,10 +6,11 @@ ghost use Rattle.sig_index.specs.Games.{AreWithin, Holds, extent_in, head_in};
 ghost use Rattle.book_pages.specs.Asking.{len_if_in, price};
 ghost use Rattle.book_pages.specs.Causes.{HasBookCause};
 ghost use Rattle.book_pages.specs.Hits.{hits_below};
-ghost use Rattle.book_pages.specs.Keeping.{AreBoards, AreTallies, AreCountedIf, HaveCounted, IsBoard, IsUncounted, counted_of};
+ghost use Rattle.book_pages.specs.Keeping.{AreBoards, AreTallies, AreCountedIf, HasHomes, HaveCounted, IsBoard, IsUncounted, counted_of};
 
 use crate::counting::{Counted, count_record, men_in};
 use crate::fault::BookError;
+use crate::least::{Least, homes_of};
 use crate::listing::{Listed, Worth};
 use crate::tally::Tally;
 use crate::trail::{Tracker, Trail, Way};
@@ -82,13 +83,16 @@ impl Book {
     {
         let mut tallies = tallies_of(alloc, boards.len())?;
         let mut trails = trails_of(alloc, boards.len())?;
-        let fewest = fewest_in(boards.as_slice());
+        let least = Least {
+            men: fewest_in(boards.as_slice()),
+            homes: homes_of(alloc, boards.as_slice())?,
+        };
         match count_games(
             alloc,
             games,
             filter,
             &boards,
-            fewest,
+            &least,
             tallies.as_mut_slice(),
             trails.as_mut_slice(),
             depth,
@@ -182,7 +186,7 @@ fn count_games<G: Games, F: Files>(
     games: &G,
     filter: &Filter,
     boards: &IndexSet<PackedBoard>,
-    fewest: u16,
+    least: &Least,
     tallies: &mut [Tally],
     trails: &mut [Trail],
     depth: u8,
@@ -191,7 +195,8 @@ fn count_games<G: Games, F: Files>(
 ) -> Result<(), BookError>
     requires games { length filter.now ≡ length (G.sigs games.now) }
     requires few { length filter.now ≤ 16777214 }
-    requires boards { AreBoards boards.now fewest }
+    requires boards { AreBoards boards.now least.now.men }
+    requires homes { All (HasHomes least.now.homes.items) boards.now.keys }
     requires count { length tallies.old ≡ length boards.now.keys }
     requires each { All IsUncounted tallies.old }
     requires room { 131072 ≤ length buf.old }
@@ -210,7 +215,7 @@ fn count_games<G: Games, F: Files>(
             filter.get(i),
             i,
             boards,
-            fewest,
+            least,
             tallies,
             trails,
             depth,
@@ -231,7 +236,7 @@ fn count_game<G: Games, F: Files>(
     ply: Option<u32>,
     i: u32,
     boards: &IndexSet<PackedBoard>,
-    fewest: u16,
+    least: &Least,
     tallies: &mut [Tally],
     trails: &mut [Trail],
     depth: u8,
@@ -240,7 +245,8 @@ fn count_game<G: Games, F: Files>(
 ) -> Result<(), BookError>
     requires game { i < length (G.sigs games.now) }
     requires few { i ≤ 16777213 }
-    requires boards { AreBoards boards.now fewest }
+    requires boards { AreBoards boards.now least.now.men }
+    requires homes { All (HasHomes least.now.homes.items) boards.now.keys }
     requires kept { AreTallies boards.now.keys i tallies.old }
     requires room { 131072 ≤ length buf.old }
     requires within { AreWithin (F.seen files.old).known (G.extents games.now) }
@@ -263,7 +269,7 @@ fn count_game<G: Games, F: Files>(
     let read = match count_record(
         alloc,
         boards,
-        fewest,
+        least,
         tallies,
         trails,
         &mut tracker,

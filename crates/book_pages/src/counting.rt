@@ -10,9 +10,10 @@ ghost use Rattle.indexmap.specs.IndexSet.{IsUnique};
 ghost use Rattle.pos_search.specs.Matching.{matches};
 ghost use Rattle.tree_rows.specs.Hits.{hit_from};
 ghost use Rattle.book_pages.specs.Book.{packed_eq};
-ghost use Rattle.book_pages.specs.Keeping.{AreBoards, AreMet, AreMetAt, AreMetNoMore, AreTallies, IsBelow, IsHere, Tallied, is_at, men_in, query_of};
+ghost use Rattle.book_pages.specs.Keeping.{AreBoards, AreMet, AreMetAt, AreMetNoMore, AreTallies, HasHomes, IsBelow, IsHere, Tallied, is_at, men_in, query_of};
 ghost use Rattle.book_pages.specs.declared.counting.Course.TheVariants as course;
 
+use crate::least::{Least, is_past};
 use crate::tally::Tally;
 use crate::trail::{Tracker, Trail};
 use cell_core::{Colour, Move, PackedBoard, pack};
@@ -43,11 +44,11 @@ enum Course {
 
 /// Counts the game of a record on the boards that its main line reaches, on each at the place where the line reaches it
 /// first. It answers whether the bytes may be a record. If they are none, and after want of memory, nothing is known of
-/// what was counted. No board has fewer men than `fewest`, kings not counted.
+/// what was counted. No board has less than `least`.
 pub(crate) fn count_record(
     alloc: Global,
     boards: &IndexSet<PackedBoard>,
-    fewest: u16,
+    least: &Least,
     tallies: &mut [Tally],
     trails: &mut [Trail],
     tracker: &mut Tracker,
@@ -56,7 +57,8 @@ pub(crate) fn count_record(
 ) -> Result<bool, AllocError>
     requires few { length bytes.now < 2 ^ 32 }
     requires number { game.now.number ≤ 16777213 }
-    requires boards { AreBoards boards.now fewest }
+    requires boards { AreBoards boards.now least.now.men }
+    requires homes { All (HasHomes least.now.homes.items) boards.now.keys }
     requires kept { AreTallies boards.now.keys game.now.number tallies.old }
     ensures kept { IfOk result (λ read. read ≡ true → AreTallies boards.now.keys (game.now.number + 1) tallies.new) }
     ensures met { IfOk result (λ read. read ≡ true → (tags : List Tag) (tree : GameTree) → IsRecord bytes.now tags tree → AreMet boards.now.keys game.now tree (plies_of tree + 1) tallies.old tallies.new) }
@@ -70,7 +72,7 @@ pub(crate) fn count_record(
         // A move takes a byte at least, so the walk ends.
         walk.ply();
         let course = count_here(
-            alloc, boards, fewest, tallies, trails, tracker, game, &mut walk,
+            alloc, boards, least, tallies, trails, tracker, game, &mut walk,
         )?;
         match course {
             Course::On => {}
@@ -84,7 +86,7 @@ pub(crate) fn count_record(
 fn count_here(
     alloc: Global,
     boards: &IndexSet<PackedBoard>,
-    fewest: u16,
+    least: &Least,
     tallies: &mut [Tally],
     trails: &mut [Trail],
     tracker: &mut Tracker,
@@ -92,7 +94,8 @@ fn count_here(
     walk: &mut Walk<'_>,
 ) -> Result<Course, AllocError>
     requires number { game.now.number ≤ 16777213 }
-    requires boards { AreBoards boards.now fewest }
+    requires boards { AreBoards boards.now least.now.men }
+    requires homes { All (HasHomes least.now.homes.items) boards.now.keys }
     requires kept { AreTallies boards.now.keys (game.now.number + 1) tallies.old }
     ensures kept { IfOk result (λ c. (c ≡ course.Broken → ⊥) → AreTallies boards.now.keys (game.now.number + 1) tallies.new) }
     ensures met { IfOk result (λ c. (c ≡ course.Broken → ⊥) → (tags : List Tag) (tree : GameTree) → IsRecord walk.old.bytes tags tree → AreMetAt boards.now.keys game.now tree walk.old.ply tallies.old tallies.new) }
@@ -102,7 +105,7 @@ fn count_here(
     ensures fault { IfOk result (λ c. c ≡ course.Broken → IsSomeRecord walk.old.bytes → ⊥) }
 {
     let place = walk.position();
-    if men_in(place) < fewest {
+    if is_past(least, place) {
         return Ok(Course::Over);
     }
     // The rules of a position.

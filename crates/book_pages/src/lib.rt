@@ -5,6 +5,7 @@ mod book;
 mod counting;
 mod fault;
 mod finding;
+mod least;
 mod listing;
 mod met;
 mod order;

@@ -15,8 +15,6 @@ use tree_rows::needed;
 pub struct Order {
     // The pages in the order in which they are found.
     found: Vec<usize>,
-    // Of each page its place among these.
-    places: Vec<Option<usize>>,
     // Of each page the one from which it was found.
     came: Vec<Option<usize>>,
 }
@@ -30,52 +28,30 @@ impl Model for Order {
 }
 
 impl Order {
-    ghost use Rattle.std.specs.Prelude.{◌≡◌, slice_get};
+    ghost use Rattle.std.specs.Prelude.{◌≡◌, ◌<◌, ℕ, All, Contains, IfOk, length};
 
     /// The order of the pages of a book.
-    pub fn of(alloc: Global, book: &Book) -> Result<Order, AllocError> {
-        let mut order = Order {
-            found: Vec::new(alloc),
-            places: Vec::new(alloc),
-            came: Vec::new(alloc),
-        };
-        order.places.resize(book.len(), None)?;
-        order.came.resize(book.len(), None)?;
-        for gone in 0..book.len() {
-            if order.page(gone).is_none() {
-                let first = order.first_left(book.len());
-                order.find(first, None)?;
-            }
-            if let Some(page) = order.page(gone) {
-                order.go_on(alloc, book, page)?;
-            }
-        }
-        Ok(order)
-    }
-
-    // The first page that was not found yet.
-    fn first_left(&self, pages: usize) -> usize {
-        for page in 0..pages {
-            if let Some(None) = self.places.get(page) {
-                return page;
-            }
-        }
-        pages
-    }
-
-    /// The page that is found at a place, if there are so many.
-    pub fn page(&self, place: usize) -> Option<usize>
-        ensures page { result ≡ slice_get self.now place }
+    pub fn of(alloc: Global, book: &Book) -> Result<Order, AllocError>
+        ensures all { IfOk result (λ order. (page : ℕ) → page < length book.now.boards → Contains order page) }
+        ensures pages { IfOk result (λ order. All (λ page. page < length book.now.boards) order) }
     {
-        self.found.get(place).copied()
+        let mut finding = Finding::new(alloc, book.len())?;
+        let mut gone = 0;
+        for page in 0..book.len() {
+            finding.find(page, None)?;
+            gone = finding.go_on(alloc, book, gone)?;
+        }
+        Ok(Order {
+            found: finding.found,
+            came: finding.came,
+        })
     }
 
-    /// The place of a page in this order.
-    pub fn place(&self, page: usize) -> usize {
-        match self.places.get(page) {
-            Some(Some(place)) => *place,
-            _ => 0,
-        }
+    /// The pages in this order.
+    pub fn pages(&self) -> &[usize]
+        ensures pages { result.now ≡ self.now }
+    {
+        self.found.as_slice()
     }
 
     /// The page from which a page was found, unless it is the start or one that no page leads to.
@@ -85,26 +61,72 @@ impl Order {
             None => None,
         }
     }
+}
+
+// What is found so far of the order of pages.
+#[derive(Drop)]
+struct Finding {
+    found: Vec<usize>,
+    // Of each page whether it was found.
+    signs: Vec<bool>,
+    came: Vec<Option<usize>>,
+}
+
+impl Finding {
+    ghost use Rattle.std.specs.Prelude.{◌≡◌, ◌<◌, ℕ, Contains, IfOk, OnOk, length};
+    ghost use Rattle.book_pages.specs.Order.{AreFound, GoesOn};
+
+    // None of so many pages was found.
+    fn new(alloc: Global, pages: usize) -> Result<Finding, AllocError>
+        ensures none { IfOk result (λ finding. AreFound finding.signs.items finding.found.items) }
+        ensures pages { IfOk result (λ finding. length finding.signs.items ≡ pages) }
+    {
+        let mut signs = Vec::new(alloc);
+        signs.resize(pages, false)?;
+        let mut came = Vec::new(alloc);
+        came.resize(pages, None)?;
+        Ok(Finding {
+            found: Vec::new(alloc),
+            signs,
+            came,
+        })
+    }
 
     // Finds a page, if it was not found before.
-    fn find(&mut self, page: usize, came: Option<usize>) -> Result<(), AllocError> {
-        let found = self.found.len();
-        let Some(place) = self.places.get_mut(page) else {
-            return Ok(());
-        };
-        if place.is_some() {
+    fn find(&mut self, page: usize, came: Option<usize>) -> Result<(), AllocError>
+        requires kept { AreFound self.old.signs.items self.old.found.items }
+        ensures kept { OnOk result (GoesOn self.old.signs.items self.old.found.items self.new.signs.items self.new.found.items) }
+        ensures there { page < length self.old.signs.items → OnOk result (Contains self.new.found.items page) }
+    {
+        if page >= self.signs.len() || self.signs[page] {
             return Ok(());
         }
-        *place = Some(found);
-        if let Some(from) = self.came.get_mut(page) {
-            *from = came;
-        }
+        self.signs[page] = true;
+        put(self.came.as_mut_slice(), page, came);
         self.found.push(page)?;
         Ok(())
     }
 
+    // Finds the pages to which the moves of pages lead, from those on that were found behind the first so many, and answers how many these
+    // are then.
+    fn go_on(&mut self, alloc: Global, book: &Book, gone: usize) -> Result<usize, AllocError>
+        requires kept { AreFound self.old.signs.items self.old.found.items }
+        ensures kept { OnOk result (GoesOn self.old.signs.items self.old.found.items self.new.signs.items self.new.found.items) }
+    {
+        for place in gone..book.len() {
+            let Some(page) = self.found.get(place).copied() else {
+                return Ok(place);
+            };
+            self.go_behind(alloc, book, page)?;
+        }
+        Ok(book.len())
+    }
+
     // Finds the pages to which the moves of a page lead, by games falling.
-    fn go_on(&mut self, alloc: Global, book: &Book, page: usize) -> Result<(), AllocError> {
+    fn go_behind(&mut self, alloc: Global, book: &Book, page: usize) -> Result<(), AllocError>
+        requires kept { AreFound self.old.signs.items self.old.found.items }
+        ensures kept { OnOk result (GoesOn self.old.signs.items self.old.found.items self.new.signs.items self.new.found.items) }
+    {
         if page >= book.len() {
             return Ok(());
         }
@@ -112,6 +134,13 @@ impl Order {
             self.find(*to, Some(page))?;
         }
         Ok(())
+    }
+}
+
+// Puts down from where a page was found.
+fn put(came: &mut [Option<usize>], page: usize, from: Option<usize>) {
+    if let Some(place) = came.get_mut(page) {
+        *place = from;
     }
 }
 

@@ -1,3 +1,5 @@
 pub mod Text
 pub mod Names
 pub mod Table
+pub mod Listing
+pub mod Page

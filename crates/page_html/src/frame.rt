@@ -2,6 +2,7 @@
 ghost use Rattle.std.specs.Prelude.{◌≡◌, ◌+◌, ◌++◌, OnOk, codes};
 ghost use Rattle.cell_core.specs.Man.{kind_number};
 ghost use Rattle.cell_core.specs.Packed.{nibble_of};
+ghost use Rattle.page_html.specs.Listing.{game_file};
 ghost use Rattle.page_html.specs.Names.{digits_below, file_of, hex_digit, side_text};
 
 use crate::numbers::push_number;
@@ -50,7 +51,10 @@ fn push_digits(out: &mut Vec<u8>, board: &Board) -> Result<(), AllocError>
 }
 
 /// Adds the name of the file of a game.
-pub fn game_file_name(out: &mut Vec<u8>, game: u32) -> Result<(), AllocError> {
+#[tactic(auto, using(std::proofs::Common::append_assoc), unfolding(crate::specs::Listing::game_file))]
+pub fn game_file_name(out: &mut Vec<u8>, game: u32) -> Result<(), AllocError>
+    ensures added { OnOk result (out.new.items ≡ out.old.items ++ game_file game) }
+{
     out.extend_from_slice(b"g")?;
     push_number(out, u128::from(game))?;
     out.extend_from_slice(b".html")

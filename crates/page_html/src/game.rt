@@ -12,7 +12,7 @@ use crate::numbers::push_number;
 use crate::site::Site;
 use crate::text::push_text;
 use crate::way::{number_at, ply_of, push_move_number};
-use cell_core::{Board, Move, Square, pack};
+use cell_core::{Board, Kind, Move, Square, pack};
 use chess_laws::Position;
 use chess_text::{play_san, write_fen};
 use game_tree::{Game, Head, Node, Rating, eco_text};
@@ -159,12 +159,14 @@ fn push_move(
     let text = play_san(place, mv);
     out.extend_from_slice(b"<a id=\"m")?;
     push_number(out, u128::from(ply))?;
-    out.extend_from_slice(b"\" href=\"")?;
     let packed = pack(place.board(), place.side());
     match site.book().page_of(&packed) {
-        Some(page) => site.push_file(out, page)?,
+        Some(page) => {
+            out.extend_from_slice(b"\" href=\"")?;
+            site.push_file(out, page)?;
+        }
         None => {
-            out.extend_from_slice(b"#m")?;
+            out.extend_from_slice(b"\" href=\"#m")?;
             push_number(out, u128::from(ply))?;
         }
     }
@@ -177,26 +179,50 @@ fn push_move(
     out.extend_from_slice(b"</a>\n")
 }
 
-// Adds the squares that a move changes, each with the letter of the man that stands there behind it. But for its target they are on the
-// rank from which it goes: there the rook stands with which the king castles, and the pawn that is taken en passant.
+// Adds the squares that a move changes, in their order, each with the letter of the man that stands there behind it. They are its origin and
+// its target, and on the rank of the origin the squares of the rook with which the king castles, or of the pawn that is taken en passant.
 fn push_changes(
     out: &mut Vec<u8>,
     before: &Board,
     after: &Board,
     mv: &Move,
 ) -> Result<(), AllocError> {
-    let rank = mv.from.index() / 8;
+    let from = mv.from.index();
     let to = mv.to.index();
-    if to / 8 < rank {
+    if to / 8 < from / 8 {
         push_change(out, before, after, to)?;
     }
-    for file in 0..8u8 {
-        push_change(out, before, after, 8 * rank + file)?;
-    }
-    if to / 8 > rank {
+    push_rank(out, before, after, mv)?;
+    if to / 8 > from / 8 {
         push_change(out, before, after, to)?;
     }
     Ok(())
+}
+
+// Adds the squares that a move changes on the rank of its origin.
+fn push_rank(
+    out: &mut Vec<u8>,
+    before: &Board,
+    after: &Board,
+    mv: &Move,
+) -> Result<(), AllocError> {
+    let from = mv.from.index();
+    if is_plain(before, mv) && mv.to.index() / 8 != from / 8 {
+        return push_change(out, before, after, from);
+    }
+    for file in 0..8u8 {
+        push_change(out, before, after, from / 8 * 8 + file)?;
+    }
+    Ok(())
+}
+
+// Whether a move changes no square but its origin and its target: that of any man but a pawn which takes does, if it leaves its rank.
+fn is_plain(before: &Board, mv: &Move) -> bool {
+    let moves_along = mv.from.index() % 8 == mv.to.index() % 8;
+    match before.at(mv.from) {
+        Some(man) => man.kind != Kind::Pawn || moves_along,
+        None => false,
+    }
 }
 
 // Adds a square, if two boards differ on it, with the letter of the man that stands there on the second.
@@ -207,12 +233,11 @@ fn push_change(out: &mut Vec<u8>, before: &Board, after: &Board, s: u8) -> Resul
     if man == before.at(Square::at(s)) {
         return Ok(());
     }
-    out.push(b' ')?;
-    push_square(out, s)?;
-    if let Some(man) = man {
-        out.push(letter(man))?;
+    let (file, rank) = (b'a' + s % 8, b'1' + s / 8);
+    match man {
+        Some(man) => out.extend_from_slice(&[b' ', file, rank, letter(man)]),
+        None => out.extend_from_slice(&[b' ', file, rank]),
     }
-    Ok(())
 }
 
 // Adds the text of a game in Portable Game Notation, line by line.

@@ -1,7 +1,11 @@
 //! The pages of a book, one after the other.
-ghost use Rattle.std.specs.Prelude.{◌<◌, length};
+ghost use Rattle.std.specs.Prelude.{◌≡◌, ◌<◌, ◌++◌, List, OnOk, Some, length, slice_get};
+ghost use Rattle.cell_core.specs.Packed.{Packed};
 ghost use Rattle.game_tree.specs.Head.{IsBounded};
 ghost use Rattle.game_tree.specs.Legal.{IsLegalGame};
+ghost use Rattle.tree_rows.specs.declared.row.Row.{Row};
+ghost use Rattle.page_html.specs.Page.{EndsWith, IsPage, last_tags, others_link, page_end};
+ghost use Rattle.page_html.specs.Table.{table};
 
 use crate::board::push_boards;
 use crate::frame::{file_name, push_head, push_title_end};
@@ -19,12 +23,13 @@ use chess_text::write_fen;
 use game_tree::{Game, Head};
 use sig_index::Games;
 use std::alloc::{AllocError, Global};
+use std::marker::Model;
 
 /// What stands before the links to the pages that no page leads to.
 const OTHERS: &[u8] =
     b"<header>\n<nav class=\"way\" aria-label=\"Moves\"><a href=\"index.html\">Start</a></nav>\n</header>\n<h1>Positions that no other page leads to</h1>\n<p>Enough games reach each of them, but too few by any one move.</p>\n<ul>\n";
 
-/// The pages of a book that are made, in their order, with what is known of those that were made.
+/// The pages of a book that are made, in their order, with what is known of those that were made. Contracts see the book.
 #[derive(Drop)]
 pub struct Site<'a> {
     // The name of the base.
@@ -44,7 +49,23 @@ pub struct Site<'a> {
     start_boards: Vec<u8>,
 }
 
+impl<'a> Model for Site<'a> {
+    ghost use Rattle.book_pages.specs.Book.{Pages};
+
+    ghost Value = { Pages };
+
+    ghost view = { λ s. s.book.now };
+}
+
 impl<'a> Site<'a> {
+    ghost use Rattle.std.specs.Prelude.{◌≡◌, ◌<◌, ◌++◌, IfOk, List, OnOk, Some, length, slice_get};
+    ghost use Rattle.cell_core.specs.Packed.{Packed};
+    ghost use Rattle.game_tree.specs.Head.{IsBounded};
+    ghost use Rattle.game_tree.specs.Legal.{IsLegalGame};
+    ghost use Rattle.tree_rows.specs.declared.row.Row.{Row};
+    ghost use Rattle.page_html.specs.Page.{EndsWith, IsPage};
+    ghost use Rattle.page_html.specs.Table.{table};
+
     /// No page of a book was made yet. Its pages are in this order, it is one of the base of this name, and this side stands below on its
     /// boards.
     pub fn new(
@@ -54,7 +75,9 @@ impl<'a> Site<'a> {
         order: &'a Order,
         openings: &'a Openings<'a>,
         below: Colour,
-    ) -> Result<Site<'a>, AllocError> {
+    ) -> Result<Site<'a>, AllocError>
+        ensures book { IfOk result (λ site. site ≡ book.now) }
+    {
         let mut places = Vec::new(alloc);
         let mut files = Vec::new(alloc);
         for page in 0..book.len() {
@@ -76,39 +99,37 @@ impl<'a> Site<'a> {
         })
     }
 
-    /// Adds the page that is found at this place, if there are so many. The pages before it have been made.
+    /// Adds a page. Those before it in their order have been made.
+    ///
+    /// It fails only for want of memory, and a part of the page may then have been added.
     pub fn push_page<G: Games>(
         &mut self,
         alloc: Global,
         out: &mut Vec<u8>,
         games: &G,
-        place: usize,
-    ) -> Result<(), AllocError> {
-        match self.order.page(place) {
-            Some(page) if page < self.book.len() => {
-                self.push_body(alloc, out, page)?;
-                push_games(out, games, self.book.listed(page))?;
-            }
-            _ => return Ok(()),
-        }
-        if place == 0 && self.has_others() {
-            out.extend_from_slice(
-                b"<p><a href=\"others.html\">Positions that no other page leads to</a></p>\n",
-            )?;
-        }
-        out.extend_from_slice(b"</div>\n</main>\n</body>\n</html>\n")
+        page: usize,
+    ) -> Result<(), AllocError>
+        requires page { page < length self.old.boards }
+        ensures page { (board : Packed) (rows : List Row) → slice_get self.old.boards page ≡ Some board → slice_get self.old.rows page ≡ Some rows → OnOk result (IsPage self.old.boards (G.heads games.now) board rows out.new.items) }
+        ensures same { self.new ≡ self.old }
+    {
+        self.push_body(alloc, out, page)?;
+        push_games(out, games, self.book.listed(page))?;
+        push_end(out, self.leads_to_others(page))?;
+        Ok(())
+    }
+
+    // Whether a page has a link to the page of the positions that no page leads to: that of the start does, if there are any.
+    fn leads_to_others(&self, page: usize) -> bool {
+        page == 0 && self.has_others()
     }
 
     /// Whether there is a page beside the start that no page leads to.
     pub fn has_others(&self) -> bool {
-        for place in 1..self.book.len() {
-            if let Some(page) = self.order.page(place) {
-                if self.order.came(page).is_none() {
-                    return true;
-                }
-            }
-        }
-        false
+        self.order
+            .pages()
+            .iter()
+            .any(|page| *page > 0 && self.order.came(*page).is_none())
     }
 
     /// Adds the page of those pages that no page leads to, which have all been made.
@@ -117,10 +138,8 @@ impl<'a> Site<'a> {
         out.extend_from_slice(b"Positions that no other page leads to - ")?;
         push_title_end(out, self.name)?;
         out.extend_from_slice(OTHERS)?;
-        for place in 1..self.book.len() {
-            if let Some(page) = self.order.page(place) {
-                self.push_other(alloc, out, page)?;
-            }
+        for page in self.order.pages() {
+            self.push_other(alloc, out, *page)?;
         }
         out.extend_from_slice(b"</ul>\n</body>\n</html>\n")
     }
@@ -172,8 +191,13 @@ impl<'a> Site<'a> {
         }
     }
 
-    // What is known of a page that no page leads to: what its first game tells, or its board.
-    fn begin(&mut self, page: usize) {
+    // Tells what is known of a page, if no page leads to it: what its first game tells, or its board.
+    fn begin(&mut self, page: usize)
+        ensures same { self.new ≡ self.old }
+    {
+        if self.order.came(page).is_some() {
+            return;
+        }
         let place = match (self.book.way(page), self.board(page)) {
             (Some(way), _) => Place::behind(way, self.openings),
             (None, Some(board)) => Place::on(&board, self.openings),
@@ -185,7 +209,9 @@ impl<'a> Site<'a> {
     }
 
     // Tells what is known of the page that a move of a page leads to, if it was found by that.
-    fn tell(&mut self, page: usize, led: &Led) {
+    fn tell(&mut self, page: usize, led: &Led)
+        ensures same { self.new ≡ self.old }
+    {
         if self.order.came(led.page) != Some(page) {
             return;
         }
@@ -248,9 +274,9 @@ impl<'a> Site<'a> {
         }
     }
 
-    // Adds a link to a page, if no page leads to it.
+    // Adds a link to a page beside the start, if no page leads to it.
     fn push_other(&self, alloc: Global, out: &mut Vec<u8>, page: usize) -> Result<(), AllocError> {
-        if self.order.came(page).is_some() {
+        if page == 0 || self.order.came(page).is_some() {
             return Ok(());
         }
         out.extend_from_slice(b"<li>")?;
@@ -261,21 +287,21 @@ impl<'a> Site<'a> {
 
     // Adds a page up to the games.
     fn push_body(&mut self, alloc: Global, out: &mut Vec<u8>, page: usize) -> Result<(), AllocError>
-        requires page { page < length self.old.book.now.boards }
+        requires page { page < length self.old.boards }
+        ensures table { (board : Packed) (rows : List Row) → slice_get self.old.boards page ≡ Some board → slice_get self.old.rows page ≡ Some rows → OnOk result (EndsWith (table self.old.boards board rows) out.new.items) }
+        ensures same { self.new ≡ self.old }
     {
-        let book = self.book;
-        if self.order.came(page).is_none() {
-            self.begin(page);
-        }
+        self.begin(page);
         let steps = way_to(alloc, self, page)?;
         self.push_front(out, steps.as_slice(), page)?;
-        let (board, side) = unpack(&book.board(page));
+        let (board, side) = unpack(&self.book.board(page));
         push_boards(out, &board, self.below, &self.last_move(page))?;
         self.push_copies(alloc, out, steps.as_slice(), page)?;
         out.extend_from_slice(b"</div>\n<div class=\"tables\">\n")?;
         out.extend_from_slice(to_move(side))?;
         self.push_opening(out, page)?;
-        self.push_moves(alloc, out, book, page)
+        self.push_moves(alloc, out, page)?;
+        Ok(())
     }
 
     // Adds what stands before the board of a page to which these moves lead.
@@ -344,17 +370,47 @@ impl<'a> Site<'a> {
         &mut self,
         alloc: Global,
         out: &mut Vec<u8>,
-        book: &Book,
         page: usize,
     ) -> Result<(), AllocError>
-        requires page { page < length book.now.boards }
+        requires page { page < length self.old.boards }
+        ensures table { (board : Packed) (rows : List Row) → slice_get self.old.boards page ≡ Some board → slice_get self.old.rows page ≡ Some rows → OnOk result (out.new.items ≡ out.old.items ++ table self.old.boards board rows) }
+        ensures same { self.new ≡ self.old }
     {
         let mut led = Vec::new(alloc);
-        push_table(alloc, out, &mut led, book, page)?;
+        push_table(alloc, out, &mut led, self.book, page)?;
         for one in led.as_slice() {
             self.tell(page, one);
         }
         Ok(())
+    }
+}
+
+// Adds the end of a page, which may have a link to the pages that no page leads to.
+#[tactic(auto, using(std::proofs::Common::append_assoc), unfolding(crate::specs::Page::page_end))]
+fn push_end(out: &mut Vec<u8>, others: bool) -> Result<(), AllocError>
+    ensures added { OnOk result (out.new.items ≡ out.old.items ++ page_end others) }
+{
+    out.extend_from_slice(others_link(others))?;
+    out.extend_from_slice(last_tags())
+}
+
+// What each page of a position ends with.
+#[tactic(auto, unfolding(crate::specs::Page::last_tags))]
+fn last_tags() -> &'static [u8]
+    ensures text { result.now ≡ last_tags }
+{
+    b"</div>\n</main>\n</body>\n</html>\n"
+}
+
+// The link to the page of the positions that no page leads to, where a page has it.
+#[tactic(auto, unfolding(crate::specs::Page::others_link))]
+fn others_link(others: bool) -> &'static [u8]
+    ensures link { result.now ≡ others_link others }
+{
+    if others {
+        b"<p><a href=\"others.html\">Positions that no other page leads to</a></p>\n"
+    } else {
+        b""
     }
 }
 

@@ -1,1 +1,3 @@
 pub mod AskedLaws
+pub mod PuttingLemmas
+pub mod MakingLemmas

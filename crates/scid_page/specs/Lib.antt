@@ -1,1 +1,3 @@
 pub mod Only
+pub mod Shelf
+pub mod Putting

@@ -5,7 +5,7 @@ use std::alloc::{AllocError, Global};
 use std::fs::File;
 use std::io::{ErrorKind, IsTerminal, Write};
 use std::rt::Files as FileSystem;
-use std::{fs, io};
+use std::{fs, io, str};
 use std_devices::Shown;
 
 /// The file by which a folder is known that the program made, and what it says.
@@ -126,8 +126,8 @@ impl<'a> Folder<'a> {
         self.write(MARK, MARK_WORDS)
     }
 
-    /// Writes a file of the folder, which is not there yet.
-    pub fn write(&self, file: &str, bytes: &[u8]) -> Result<(), End> {
+    // Writes a file of the folder, which is not there yet.
+    fn write(&self, file: &str, bytes: &[u8]) -> Result<(), End> {
         let path = self.path(self.at.as_str(), file)?;
         match self.put(path.as_str(), bytes) {
             Ok(()) => Ok(()),
@@ -135,10 +135,10 @@ impl<'a> Folder<'a> {
         }
     }
 
-    /// Writes the page of a name, which is a text.
-    pub fn write_at(&self, file: Vec<u8>, bytes: &[u8]) -> Result<(), End> {
-        match String::from_utf8(file) {
-            Ok(file) => self.write(file.as_str(), bytes),
+    /// Writes a file whose name is a text.
+    pub fn write_at(&self, file: &[u8], bytes: &[u8]) -> Result<(), End> {
+        match str::from_utf8(file) {
+            Ok(file) => self.write(file, bytes),
             Err(_) => Err(End::WriteFault),
         }
     }

@@ -4,28 +4,30 @@
 ghost use Rattle.std.specs.Prelude.{◌≡◌, ◌≤◌, IfOk, length};
 ghost use Rattle.base_core.specs.Represents.{IsSound, extents_of};
 ghost use Rattle.sig_index.specs.Games.{AreWithin};
+ghost use Rattle.scid_page.specs.Only.{games_asked};
 
 mod end;
 mod folder;
+mod making;
 mod messages;
 mod names;
 mod only;
 mod own;
 mod pages;
+mod shelf;
 mod words;
 
 use base_core::Base;
 use base_files::{Files, Sink, write_all};
-use book_pages::{Book, Order, Reach, find_boards};
 use end::End;
 use folder::Folder;
 use game_filter::Filter;
 use head_search::HeadQuery;
+use making::{Asked, make_book};
 use messages::{HELP, VERSION, message};
 use names::{names_read, openings_read};
 use only::{games_asked, query_read};
-use page_html::{Openings, Site};
-use pages::{finish, title, write_games, write_pages};
+use shelf::Filling;
 use sig_index::Games;
 use std::alloc::Global;
 use std::env;
@@ -66,15 +68,6 @@ fn given(rt: &HostRuntime) -> Result<Vec<String>, End> {
         Err(error) if error.kind() == ErrorKind::OutOfMemory => Err(End::Memory),
         Err(_) => Err(End::Usage),
     }
-}
-
-// What is asked for, with what was read of it.
-#[derive(Drop)]
-struct Asked<'a> {
-    wanted: &'a Wanted<'a>,
-    query: Option<HeadQuery>,
-    openings: Openings<'a>,
-    folder: Folder<'a>,
 }
 
 // Makes the pages that are asked for.
@@ -162,6 +155,7 @@ fn choose<K: Sink>(
     query: &Option<HeadQuery>,
 ) -> Result<Filter, End>
     ensures each { IfOk result (λ games. length games ≡ length base.now.entries) }
+    ensures games { IfOk result (λ games. games ≡ games_asked query.now base.now) }
 {
     let games = games_asked(alloc, base, query)?;
     if query.is_some() {
@@ -184,7 +178,7 @@ fn say_opened<K: Sink>(alloc: Global, out: &mut K, games: u32, mended: u32) -> R
     )
 }
 
-// Begins the folder, counts, and writes the pages.
+// Begins the folder, puts the book into it, and says that it is whole.
 fn make_pages<F: Files, K: Sink>(
     rt: &HostRuntime,
     asked: &Asked<'_>,
@@ -203,41 +197,10 @@ fn make_pages<F: Files, K: Sink>(
 {
     let alloc = rt.alloc();
     asked.folder.begin()?;
-    let (book, least) = read_book(alloc, base, games, &asked.wanted.reach, files, block)?;
-    let written = write_book(alloc, asked, base, &book, files, line, block);
-    if written.is_err() {
-        return written;
-    }
-    say_made(alloc, out, book.len(), least)
-}
-
-// Writes the pages.
-fn write_book<F: Files>(
-    alloc: Global,
-    asked: &Asked<'_>,
-    base: &Base,
-    book: &Book,
-    files: &mut F,
-    line: &ProgressLine<'_>,
-    block: &mut [u8],
-) -> Result<(), End>
-    requires end { base.now.end ≤ (F.seen files.old).known }
-    requires room { length block.old ≡ 131072 }
-{
-    let folder = &asked.folder;
-    let title = title(alloc, asked.wanted.base, asked.wanted.only)?;
-    let order = Order::of(alloc, book)?;
-    let mut site = Site::new(
-        alloc,
-        title.as_bytes(),
-        book,
-        &order,
-        &asked.openings,
-        asked.wanted.below,
-    )?;
-    let first = write_pages(alloc, folder, &mut site, base, book, &order, line)?;
-    write_games(alloc, folder, &site, base, book, files, block)?;
-    finish(alloc, folder, book, first.as_slice())
+    let mut shelf = Filling::new(&asked.folder, line);
+    let (pages, least) = make_book(alloc, asked, base, games, files, &mut shelf, block)?;
+    asked.folder.finish()?;
+    say_made(alloc, out, pages, least)
 }
 
 // Says how many pages there are, and how many games reach each at least.
@@ -255,33 +218,6 @@ fn open<F: Files>(alloc: Global, files: &mut F, block: &mut [u8]) -> Result<(Bas
 {
     match Base::open_base(alloc, files, false, false, block) {
         Ok(opened) => Ok(opened),
-        Err(error) => Err(End::from(error)),
-    }
-}
-
-// Counts the pages of a base over games of it.
-fn read_book<F: Files>(
-    alloc: Global,
-    base: &Base,
-    games: &Filter,
-    reach: &Reach,
-    files: &mut F,
-    block: &mut [u8],
-) -> Result<(Book, u64), End>
-    requires games { length games.now ≡ length base.now.entries }
-    requires sound { IsSound base.now }
-    requires within { AreWithin (F.seen files.old).known (extents_of base.now) }
-    requires room { length block.old ≡ 131072 }
-    ensures unchanged { F.seen files.new ≡ F.seen files.old }
-    ensures room { length block.new ≡ 131072 }
-{
-    let found = match find_boards(alloc, base, games, reach, files, block) {
-        Ok(found) => found,
-        Err(error) => return Err(End::from(error)),
-    };
-    let least = found.least;
-    match Book::read(alloc, base, games, found.boards, reach.depth, files, block) {
-        Ok(book) => Ok((book, least)),
         Err(error) => Err(End::from(error)),
     }
 }

@@ -1,15 +1,16 @@
 //! The pages of a book, written into a folder.
-ghost use Rattle.std.specs.Prelude.{◌≡◌, ◌≤◌, length};
+ghost use Rattle.std.specs.Prelude.{◌≡◌, ◌≤◌, ◌<◌, All, IfOk, IfSome, List, OnOk, length};
+ghost use Rattle.game_tree.specs.declared.head.Head.{Head as PlainHead};
+ghost use Rattle.scid_page.specs.Putting.{HasPageAt, HaveFirst, IsPageAt, Stay};
 
 use crate::end::End;
-use crate::folder::Folder;
+use crate::shelf::Shelf;
 use base_core::Base;
 use base_files::Files;
-use book_pages::{Book, Order};
+use book_pages::Book;
 use page_html::{SCRIPT, STYLE, Site, file_name, game_file_name};
 use sig_index::Games;
 use std::alloc::{AllocError, Global};
-use watched_devices::ProgressLine;
 
 /// What stands above each page: the name of the base without its folder, and the items by which its games were chosen.
 pub fn title(alloc: Global, base: &str, only: Option<&str>) -> Result<String, AllocError> {
@@ -20,65 +21,126 @@ pub fn title(alloc: Global, base: &str, only: Option<&str>) -> Result<String, Al
     }
 }
 
-/// Writes the pages of a book, and gives that of the start, which is not written yet.
-pub fn write_pages<G: Games>(
+/// Puts the pages of a book on a shelf, but for that of the start, which it gives.
+pub fn write_pages<S: Shelf, G: Games>(
     alloc: Global,
-    folder: &Folder<'_>,
+    shelf: &mut S,
     site: &mut Site<'_>,
     games: &G,
     book: &Book,
-    order: &Order,
-    line: &ProgressLine<'_>,
-) -> Result<Vec<u8>, End> {
+    order: &[usize],
+) -> Result<Vec<u8>, End>
+    requires site { site.old ≡ book.now }
+    requires start { 0 < length book.now.boards }
+    requires pages { All (λ page. page < length book.now.boards) order.now }
+    ensures first { IfOk result (λ first. IsPageAt book.now (G.heads games.now) 0 first.items) }
+    ensures rest { OnOk result (IfSome (S.told shelf.new) (HaveFirst book.now (G.heads games.now) order.now (length order.now))) }
+{
     let mut first = Vec::new(alloc);
     site.push_page(alloc, &mut first, games, 0)?;
-    folder.write("style.css", STYLE)?;
-    folder.write("book.js", SCRIPT)?;
-    let mut page = Vec::new(alloc);
-    for place in 1..book.len() {
-        page.clear();
-        site.push_page(alloc, &mut page, games, place)?;
-        write_page(alloc, folder, book, order.page(place), page.as_slice())?;
-        line.wrote(place as u64, book.len() as u64);
-    }
-    if site.has_others() {
-        page.clear();
-        site.push_others(alloc, &mut page)?;
-        folder.write("others.html", page.as_slice())?;
-    }
+    shelf.put(b"style.css", STYLE)?;
+    shelf.put(b"book.js", SCRIPT)?;
+    write_rest(alloc, shelf, site, games, book, order)?;
     Ok(first)
 }
 
-/// Writes the page of the start last, and says no longer that the folder is not whole.
-pub fn finish(alloc: Global, folder: &Folder<'_>, book: &Book, first: &[u8]) -> Result<(), End> {
-    write_page(alloc, folder, book, Some(0), first)?;
-    folder.write("index.html", first)?;
-    folder.finish()
+// Puts pages on a shelf, but for that of the start.
+fn write_rest<S: Shelf, G: Games>(
+    alloc: Global,
+    shelf: &mut S,
+    site: &mut Site<'_>,
+    games: &G,
+    book: &Book,
+    order: &[usize],
+) -> Result<(), End>
+    requires site { site.old ≡ book.now }
+    requires pages { All (λ page. page < length book.now.boards) order.now }
+    ensures rest { OnOk result (IfSome (S.told shelf.new) (HaveFirst book.now (G.heads games.now) order.now (length order.now))) }
+{
+    let mut text = Vec::new(alloc);
+    for page in order {
+        write_page(alloc, shelf, site, games, book, &mut text, *page)?;
+    }
+    Ok(())
 }
 
-// Writes a page under the name of its position.
-fn write_page(
+// Puts a page on a shelf, unless it is that of the start. It is made in `text`.
+fn write_page<S: Shelf, G: Games>(
     alloc: Global,
-    folder: &Folder<'_>,
+    shelf: &mut S,
+    site: &mut Site<'_>,
+    games: &G,
     book: &Book,
-    number: Option<usize>,
-    page: &[u8],
-) -> Result<(), End> {
-    let Some(number) = number else {
-        return Ok(());
-    };
-    if number >= book.len() {
+    text: &mut Vec<u8>,
+    page: usize,
+) -> Result<(), End>
+    requires site { site.old ≡ book.now }
+    requires page { page < length book.now.boards }
+    ensures site { site.new ≡ site.old }
+    ensures stay { OnOk result (Stay (S.told shelf.old) (S.told shelf.new)) }
+    ensures page { (page ≡ 0 → ⊥) → OnOk result (IfSome (S.told shelf.new) (HasPageAt book.now (G.heads games.now) page)) }
+{
+    if page == 0 {
         return Ok(());
     }
-    let mut file = Vec::new(alloc);
-    file_name(&mut file, &book.board(number))?;
-    folder.write_at(file, page)
+    text.clear();
+    site.push_page(alloc, text, games, page)?;
+    put_page(alloc, shelf, book, page, text.as_slice())?;
+    Ok(())
 }
 
-/// Writes the page of each game that a page lists.
-pub fn write_games<F: Files>(
+// Puts the text of a page on a shelf, under the name of its board.
+fn put_page<S: Shelf>(
     alloc: Global,
-    folder: &Folder<'_>,
+    shelf: &mut S,
+    book: &Book,
+    page: usize,
+    text: &[u8],
+) -> Result<(), End>
+    requires page { page < length book.now.boards }
+    ensures stay { OnOk result (Stay (S.told shelf.old) (S.told shelf.new)) }
+    ensures page { (heads : List PlainHead) → IsPageAt book.now heads page text.now → OnOk result (IfSome (S.told shelf.new) (HasPageAt book.now heads page)) }
+{
+    let mut name = Vec::new(alloc);
+    file_name(&mut name, &book.board(page))?;
+    shelf.put(name.as_slice(), text)?;
+    shelf.has_one_of(book.len());
+    Ok(())
+}
+
+/// Puts the page of the positions that no page leads to on a shelf, if there are any.
+pub fn write_others<S: Shelf>(alloc: Global, shelf: &mut S, site: &Site<'_>) -> Result<(), End>
+    ensures stay { OnOk result (Stay (S.told shelf.old) (S.told shelf.new)) }
+{
+    if !site.has_others() {
+        return Ok(());
+    }
+    let mut text = Vec::new(alloc);
+    site.push_others(alloc, &mut text)?;
+    shelf.put(b"others.html", text.as_slice())?;
+    Ok(())
+}
+
+/// Puts the page of the start on a shelf, under the name of its board too.
+pub fn write_start<S: Shelf>(
+    alloc: Global,
+    shelf: &mut S,
+    book: &Book,
+    text: &[u8],
+) -> Result<(), End>
+    requires start { 0 < length book.now.boards }
+    ensures stay { OnOk result (Stay (S.told shelf.old) (S.told shelf.new)) }
+    ensures page { (heads : List PlainHead) → IsPageAt book.now heads 0 text.now → OnOk result (IfSome (S.told shelf.new) (HasPageAt book.now heads 0)) }
+{
+    put_page(alloc, shelf, book, 0, text)?;
+    shelf.put(b"index.html", text)?;
+    Ok(())
+}
+
+/// Puts the page of each game that a page lists on a shelf.
+pub fn write_games<F: Files, S: Shelf>(
+    alloc: Global,
+    shelf: &mut S,
     site: &Site<'_>,
     base: &Base,
     book: &Book,
@@ -87,15 +149,16 @@ pub fn write_games<F: Files>(
 ) -> Result<(), End>
     requires end { base.now.end ≤ (F.seen files.old).known }
     requires room { length block.old ≡ 131072 }
+    ensures stay { OnOk result (Stay (S.told shelf.old) (S.told shelf.new)) }
 {
     let numbers = listed(alloc, book)?;
     let mut page = Vec::new(alloc);
     for number in numbers.as_slice() {
         page.clear();
         push_game(alloc, &mut page, site, base, *number, files, block)?;
-        let mut file = Vec::new(alloc);
-        game_file_name(&mut file, *number)?;
-        folder.write_at(file, page.as_slice())?;
+        let mut name = Vec::new(alloc);
+        game_file_name(&mut name, *number)?;
+        shelf.put(name.as_slice(), page.as_slice())?;
     }
     Ok(())
 }

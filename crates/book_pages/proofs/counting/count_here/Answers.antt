@@ -1,26 +1,29 @@
-use Rattle.std.proofs.Common.{◌≡◌, ◌<◌, ℕ, sym, ap, ◌∙◌, subst}
+use Rattle.std.proofs.Common.{◌≡◌, sym, ◌∙◌, subst}
 use Rattle.cell_core.specs.declared.man.Colour.{Colour}
 use Rattle.chess_laws.specs.Step.{Step}
 use Rattle.chess_laws.specs.declared.setup.Setup.{Setup}
 use Rattle.game_tree.specs.Replay.{position_at}
 use Rattle.sig_index.proofs.RecordLemmas.{game_legal, game_sound}
-use Rattle.book_pages.specs.Keeping.{men_in}
+use Rattle.book_pages.specs.Keeping.{IsPast}
 use Rattle.book_pages.proofs.BoardLemmas.{no_more}
-use Rattle.book_pages.proofs.HereLemmas.{Meets, end_met, few_met, hit_with, kept_met, met_here, next_within}
+use Rattle.book_pages.proofs.HereLemmas.{Meets, end_met, hit_with, kept_met, met_here, next_within, past_met}
 use Rattle.book_pages.proofs.counting.count_here.Goals as goal
 
-pub returns-then-men_in-fewest-clause-met : goal.returns-then-men_in-fewest-clause-met
-returns-then-men_in-fewest-clause-met c = λ unbroken tags tree is.
-    let few : men_in (position_at tree c.args.walk.now.ply).board < c.args.fewest =
-    subst (λ (n : ℕ). n < c.args.fewest) (c.men_in.ensures.men ∙ ap (λ (p : Setup). men_in p.board) (c.position-place.ensures.replay tags tree is)) c.if-men_in-fewest.true in
-    few_met c.args.fewest c.args.boards.now.keys c.args.game.now tree c.args.walk.now.ply c.args.tallies.now c.requires.boards.each few
-    (game_sound _ tags tree is) (game_legal _ tags tree is)
+pub returns-then-is_past-clause-met : goal.returns-then-is_past-clause-met
+returns-then-is_past-clause-met c = λ unbroken tags tree is.
+    let past : IsPast c.args.least.now.men c.args.least.now.homes.items (position_at tree c.args.walk.now.ply).board =
+    subst (λ (p : Setup). IsPast c.args.least.now.men c.args.least.now.homes.items p.board) (c.position-place.ensures.replay tags tree is)
+    (c.is_past.ensures.past c.if-is_past.true) in
+    past_met c.args.least.now.men c.args.least.now.homes.items c.args.boards.now.keys c.args.game.now tree c.args.walk.now.ply c.args.tallies.now
+    c.requires.boards.each c.requires.homes past (game_sound _ tags tree is) (game_legal _ tags tree is)
 
-pub returns-then-men_in-fewest-clause-over : goal.returns-then-men_in-fewest-clause-over
-returns-then-men_in-fewest-clause-over c = λ over tags tree is.
-    let few : men_in (position_at tree c.args.walk.now.ply).board < c.args.fewest =
-    subst (λ (n : ℕ). n < c.args.fewest) (c.men_in.ensures.men ∙ ap (λ (p : Setup). men_in p.board) (c.position-place.ensures.replay tags tree is)) c.if-men_in-fewest.true in
-    no_more c.args.fewest c.args.boards.now.keys tree c.args.walk.now.ply c.requires.boards.each few (game_sound _ tags tree is) (game_legal _ tags tree is)
+pub returns-then-is_past-clause-over : goal.returns-then-is_past-clause-over
+returns-then-is_past-clause-over c = λ over tags tree is.
+    let past : IsPast c.args.least.now.men c.args.least.now.homes.items (position_at tree c.args.walk.now.ply).board =
+    subst (λ (p : Setup). IsPast c.args.least.now.men c.args.least.now.homes.items p.board) (c.position-place.ensures.replay tags tree is)
+    (c.is_past.ensures.past c.if-is_past.true) in
+    no_more c.args.least.now.men c.args.least.now.homes.items c.args.boards.now.keys tree c.args.walk.now.ply c.requires.boards.each c.requires.homes past
+    (game_sound _ tags tree is) (game_legal _ tags tree is)
 
 pub returns-in-Some-clause-kept : goal.returns-in-Some-clause-kept
 returns-in-Some-clause-kept c = λ unbroken.
