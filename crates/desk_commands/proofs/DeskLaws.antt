@@ -1,18 +1,21 @@
 -- What each client sees behind a command of one.
-use Rattle.std.proofs.Common.{◌≡◌, ◌<◌, ◌≤◌, ◌+◌, ◌-◌, ℕ, zero, suc, Bool, true, false, cond, ◌&&◌, ◌||◌, ◌==◌, List, [], ◌∷◌, ◌++◌, Option, Some, None, Result, Ok, Err, OnOk, length, map, unwrap_or, option_map, slice_get, refl, sym, ap, subst, ◌∙◌, arith, true≢false, inl, inr}
+use Rattle.std.proofs.Common.{◌≡◌, ◌<◌, ◌≤◌, ◌+◌, ◌-◌, ℕ, zero, suc, Bool, true, false, cond, ◌&&◌, ◌||◌, ◌==◌, List, [], ◌∷◌, ◌++◌, Option, Some, None, Result, Ok, Err, All, OnOk, length, map, unwrap_or, option_map, slice_get, refl, sym, ap, subst, ◌∙◌, arith, true≢false, ◌⊎◌, inl, inr}
 use Rattle.std.proofs.lemmas.Bool.{eqb-false, eqb-true, ltb-true}
 use Rattle.std.proofs.lemmas.List.{length-map}
+use Rattle.std.proofs.lemmas.List.Elements.{All-head, All-tail}
 use Rattle.std.specs.Prelude.{nat_lt}
 use Rattle.base_files.specs.Seen.{Seen}
-use Rattle.filter_seat.specs.Seats.{Seat, first_seat}
+use Rattle.filter_seat.specs.Seats.{FitsGames, Seat, first_seat}
 use Rattle.script_text.specs.Tasks.{Order, Task, task}
 use Rattle.script_text.specs.declared.command.Command.TheVariants.{Watch}
+use Rattle.shell_commands.proofs.MarkLaws.{CountAlike, right_alike}
 use Rattle.shell_commands.proofs.SlotLaws.{task_others, task_stays}
 use Rattle.shell_commands.specs.Tasks.{tasks}
 use Rattle.shell_commands.specs.Watching.{ViewsDone, touches, watches}
 use Rattle.base_core.specs.Base.{Held}
 use Rattle.shell_state.proofs.TableLaws.{in_tables}
-use Rattle.shell_state.specs.Slots.{Slot, slot_at, table_of}
+use Rattle.shell_state.specs.Meeting.{tree_hits}
+use Rattle.shell_state.specs.Slots.{Slot, exactly_on, slot_at, table_of}
 use Rattle.shell_state.specs.Slots.Slot.{empty, idle, shows}
 use Rattle.shell_state.specs.Stands.{Holding, Stands, Tables}
 use Rattle.shell_state.specs.State.{Shared, State}
@@ -22,17 +25,20 @@ use Rattle.tree_rows.specs.declared.row.Row.{Row}
 use Rattle.view_commands.specs.Views.{AreLeft, AreRight, AreToldAtMost, IsRight, IsToldAtMost, changes_of, is_own, is_shown, slot_hits}
 use Rattle.view_commands.proofs.ToldLaws.{told_same}
 use Rattle.view_commands.specs.declared.window.Window.{Window}
+use Rattle.desk_commands.proofs.KindLaws.{public_seat}
 use Rattle.desk_commands.proofs.LendLaws.{brought_by_kind, brought_is}
 use Rattle.desk_commands.proofs.OwnLaws.{both, either, far_own, is_one_of, not_own, number_of, one_of, own_is, owner_has}
-use Rattle.desk_commands.proofs.SharedLaws.{private-keeps}
-use Rattle.desk_commands.proofs.ShowLaws.{Alike, right_like, right_unshown, told_behind}
+use Rattle.desk_commands.proofs.SharedLaws.{private-keeps, same-shared}
+use Rattle.desk_commands.proofs.ShowLaws.{Alike, count_alike, right_unshown, told_behind}
+use Rattle.desk_commands.proofs.UnseenLaws.{adds_out, moves_seen, public_alike}
 use Rattle.desk_commands.specs.Desk.{Desk, brought, desk_by, each_seat, own_tasks, seen_by, window_of}
 use Rattle.desk_commands.specs.Doing.{most_told_by}
-use Rattle.desk_commands.specs.Kinds.{is_private, order_kind}
+use Rattle.desk_commands.specs.Kinds.{is_private, is_seen, order_kind}
 use Rattle.desk_commands.specs.Showing.{AreRightTo, AreShownTo, IsLater, but_one}
 use Rattle.desk_commands.specs.Views.{AllRight, owner}
 use Rattle.desk_commands.specs.declared.kinds.Kind.{Kind}
-use Rattle.desk_commands.specs.declared.kinds.Kind.TheVariants.{Private}
+use Rattle.desk_commands.specs.Standing.{DeskHolding, DeskStands}
+use Rattle.desk_commands.specs.declared.kinds.Kind.TheVariants.{Private, Public, Adds, Moves}
 
 -- ---- seats
 
@@ -81,24 +87,68 @@ seen_own d c t less =
     ap (λ (o : Option Seat). record { shared = s.shared; seat = unwrap_or o (first_seat 0); slots = s.slots })
     (own_seat c s.seat bring d.seats ∙ ap (λ (o : Option Seat). option_map (λ (seat : Seat). s.seat) o) there.1)
 
-private_none : (kind : Kind) (t : Task) (before after : Shared) (seat : Seat) → is_private kind ≡ true → brought_by_kind kind t before after seat ≡ seat
-private_none Private t before after seat is = refl
-private_none _ t before after seat is = absurd cc
+still_none : (kind : Kind) (t : Task) (before after : Shared) (seat : Seat) → (kind ≡ Private) ⊎ (kind ≡ Public) → brought_by_kind kind t before after seat ≡ seat
+still_none Private t before after seat is = refl
+still_none Public t before after seat is = refl
+still_none _ t before after seat (inl is) = absurd cc
+still_none _ t before after seat (inr is) = absurd cc
 
-brings_none : (order : Order) (body : List ℕ) (before after : Shared) (o : Option Seat) → is_private (order_kind order) ≡ true → option_map (brought order body before after) o ≡ o
+brings_none : (order : Order) (body : List ℕ) (before after : Shared) (o : Option Seat) → (order_kind order ≡ Private) ⊎ (order_kind order ≡ Public) → option_map (brought order body before after) o ≡ o
 brings_none order body before after None is = refl
 brings_none order body before after (Some seat) is =
-    ap (λ (x : Seat). Some x) (brought_is order body before after seat ∙ private_none (order_kind order) (task order body) before after seat is)
+    ap (λ (x : Seat). Some x) (brought_is order body before after seat ∙ still_none (order_kind order) (task order body) before after seat is)
 
--- Of a private command another client sees nothing.
-pub seen_private : (d : Desk) (c : ℕ) (t : Task) (other : ℕ) → (c ≡ other → ⊥) → is_private (order_kind t.order) ≡ true → Alike (seen_by d other) (seen_by (desk_by d c t) other)
-seen_private d c t other differ is =
+-- The filter of another client behind a command that brings nothing to it.
+other_filter : (d : Desk) (c : ℕ) (t : Task) (other : ℕ) → (c ≡ other → ⊥) → (order_kind t.order ≡ Private) ⊎ (order_kind t.order ≡ Public) → (seen_by (desk_by d c t) other).seat.filter ≡ (seen_by d other).seat.filter
+other_filter d c t other differ is =
     let s : State = (own_tasks d c).after (seen_by d c) t in
     let bring : Seat → Seat = brought t.order t.body d.shared s.shared in
-    record {
-      shared = sym (private-keeps (window_of d.clients c) t.order t.body d.shared (record { seat = (seen_by d c).seat; slots = d.slots }) is);
-      filter = ap (λ (o : Option Seat). (unwrap_or o (first_seat 0)).filter) (sym (other_seat other c s.seat bring d.seats differ ∙ brings_none t.order t.body d.shared s.shared (slice_get d.seats other) is));
-    }
+    ap (λ (o : Option Seat). (unwrap_or o (first_seat 0)).filter) (other_seat other c s.seat bring d.seats differ ∙ brings_none t.order t.body d.shared s.shared (slice_get d.seats other) is)
+
+-- Of a private command another client sees nothing.
+seen_private : (d : Desk) (c : ℕ) (t : Task) (other : ℕ) → (c ≡ other → ⊥) → order_kind t.order ≡ Private → Alike (seen_by d other) (seen_by (desk_by d c t) other)
+seen_private d c t other differ is = record {
+  shared = sym (private-keeps (window_of d.clients c) t.order t.body d.shared (record { seat = (seen_by d c).seat; slots = d.slots }) (ap is_private is));
+  filter = sym (other_filter d c t other differ (inl is));
+}
+
+-- It sees what is shared as if it had said a public one.
+seen_public : (d : Desk) (c : ℕ) (t : Task) (other : ℕ) → (c ≡ other → ⊥) → order_kind t.order ≡ Public → Alike ((own_tasks d c).after (seen_by d other) t) (seen_by (desk_by d c t) other)
+seen_public d c t other differ is = record {
+  shared = same-shared (window_of d.clients c) t.order t.body d.shared (record { seat = (seen_by d other).seat; slots = d.slots }) (record { seat = (seen_by d c).seat; slots = d.slots });
+  filter = ap (λ (seat : Seat). seat.filter) (public_seat (window_of d.clients c) t.order t.body (seen_by d other) is) ∙ sym (other_filter d c t other differ (inr is));
+}
+
+-- Its trees count the same behind a line that it can't see.
+pub seen_alike : (d : Desk) (c : ℕ) (t : Task) (other : ℕ) → (c ≡ other → ⊥) → length (seen_by d other).seat.filter ≤ length d.shared.base.games → is_seen t.order ≡ false → CountAlike (seen_by d other) (seen_by (desk_by d c t) other)
+seen_alike d c t other differ fit unseen = by (order_kind t.order) refl
+  where
+    s : State
+    s = (own_tasks d c).after (seen_by d c) t
+
+    by : (kind : Kind) → order_kind t.order ≡ kind → CountAlike (seen_by d other) (seen_by (desk_by d c t) other)
+    by Private is = count_alike (seen_by d other) (seen_by (desk_by d c t) other) (seen_private d c t other differ is)
+    by Public is = λ board.
+        count_alike ((own_tasks d c).after (seen_by d other) t) (seen_by (desk_by d c t) other) (seen_public d c t other differ is) board
+        ∙ public_alike (window_of d.clients c) t.order t.body (seen_by d other) is unseen board
+    by Adds is = λ board.
+        ap (λ (o : Option Seat). tree_hits (exactly_on board) (unwrap_or o (first_seat 0)).filter s.shared.base.games) (other_seat other c s.seat (brought t.order t.body d.shared s.shared) d.seats differ)
+        ∙ adds_out (window_of d.clients c) (exactly_on board) t.order t.body (seen_by d c) (slice_get d.seats other) is fit
+    by Moves is = absurd (moves_seen t.order is unseen)
+
+within : (seats : List Seat) (games o : ℕ) → All (λ (seat : Seat). FitsGames seat games) seats → length (unwrap_or (slice_get seats o) (first_seat 0)).filter ≤ games
+within [] games zero all = omega arith
+within [] games (suc o) all = omega arith
+within (seat ∷ seats) games zero all = omega (arith, (All-head (λ (seat : Seat). FitsGames seat games) seat seats all).filter)
+within (seat ∷ seats) games (suc o) all = within seats games o (All-tail (λ (seat : Seat). FitsGames seat games) seat seats all)
+
+-- No filter of a desk has more entries than there are games.
+pub filters_within : (held : DeskHolding) (seen : Seen) (d : Desk) → DeskStands held seen d → All (λ (seat : Seat). FitsGames seat (length held.holding.kept.entries)) held.seats
+    → (o : ℕ) → length (seen_by d o).seat.filter ≤ length d.shared.base.games
+filters_within held seen d st all o =
+    let count : length held.holding.kept.entries ≡ length d.shared.base.games = (st.stands (first_seat 0)).base.count in
+    let least = within held.seats (length held.holding.kept.entries) o all in
+    subst (λ (n : ℕ). length (seen_by d o).seat.filter ≤ n) count (subst (λ (l : List Seat). length (unwrap_or (slice_get l o) (first_seat 0)).filter ≤ length held.holding.kept.entries) st.seats least)
 
 -- ---- slots
 
@@ -125,16 +175,16 @@ watch_not w order i none = elim (either (watches w order i)) [
 pub untouched : (w : Window) (s : State) (order : Order) (i : ℕ) → is_own w i ≡ false → touches w s order i ≡ false
 untouched w s order i none = rw (none, watch_not w order i none) refl
 
--- A command that is not private leaves what the slots show.
-pub slots_public : (w : Window) (s : State) (t : Task) → is_private (order_kind t.order) ≡ false → ((tasks w).after s t).slots ≡ s.slots
-slots_public w s t is = task_stays w s t (λ k board side same. true≢false (sym (ap (λ (o : Order). is_private (order_kind o)) same) ∙ is)) (λ k same. true≢false (sym (ap (λ (o : Order). is_private (order_kind o)) same) ∙ is))
+-- A command that others see leaves what the slots show.
+slots_stay : (w : Window) (s : State) (t : Task) → is_seen t.order ≡ true → ((tasks w).after s t).slots ≡ s.slots
+slots_stay w s t is = task_stays w s t (λ k board side same. true≢false (sym is ∙ ap is_seen same)) (λ k same. true≢false (sym is ∙ ap is_seen same))
 
 -- ---- the views
 
--- Behind the command of a client, before and after it was shown to the others: of a private one they are shown nothing.
+-- Behind the command of a client, before and after it was shown to the others: they are shown nothing if their trees count the same.
 pub data ToOthers {B : Type 0} (rows : B → List Row) (told : B → Told) (d : Desk) (c : ℕ) (t : Task) (mid after : List (Option B)) : Type 0 where
-  none_shown : is_private (order_kind t.order) ≡ true → after ≡ mid → ToOthers rows told d c t mid after
-  all_shown : is_private (order_kind t.order) ≡ false → AreShownTo rows told (but_one c (number_of d.clients.tagged)) d (desk_by d c t) mid after → ToOthers rows told d c t mid after
+  none_shown : ((other : ℕ) → (c ≡ other → ⊥) → CountAlike (seen_by d other) (seen_by (desk_by d c t) other)) → after ≡ mid → ToOthers rows told d c t mid after
+  all_shown : AreShownTo rows told (but_one c (number_of d.clients.tagged)) d (desk_by d c t) mid after → ToOthers rows told d c t mid after
 
 pub record Shown {B : Type 0} (rows : B → List Row) (told : B → Told) (d : Desk) (c : ℕ) (t : Task) (before mid after : List (Option B)) : Type 0 where
   pub there : c < length d.seats
@@ -148,25 +198,25 @@ pub record Shown {B : Type 0} (rows : B → List Row) (told : B → Told) (d : D
 -- A slot that is no other client's keeps its view while it is shown to them.
 stays : {B : Type 0} (rows : B → List Row) (told : B → Told) (d : Desk) (c : ℕ) (t : Task) (mid after : List (Option B)) (i : ℕ) → ((client : ℕ) → but_one c (number_of d.clients.tagged) client ≡ true → is_own (window_of d.clients client) i ≡ false)
     → ToOthers rows told d c t mid after → in_slot after i ≡ in_slot mid i
-stays rows told d c t mid after i none (none_shown is same) = ap (λ views. in_slot views i) same
-stays rows told d c t mid after i none (all_shown is shown) = shown.others i none
+stays rows told d c t mid after i none (none_shown alike same) = ap (λ views. in_slot views i) same
+stays rows told d c t mid after i none (all_shown shown) = shown.others i none
 
 unshown_stays : {B : Type 0} (rows : B → List Row) (told : B → Told) (d : Desk) (c : ℕ) (t : Task) (mid after : List (Option B)) (i : ℕ) → is_shown (slot_at d.slots i) ≡ false → ToOthers rows told d c t mid after → in_slot after i ≡ in_slot mid i
-unshown_stays rows told d c t mid after i none (none_shown is same) = ap (λ views. in_slot views i) same
-unshown_stays rows told d c t mid after i none (all_shown is shown) = shown.left i none
+unshown_stays rows told d c t mid after i none (none_shown alike same) = ap (λ views. in_slot views i) same
+unshown_stays rows told d c t mid after i none (all_shown shown) = shown.left i none
 
 -- A slot of another client.
 other_right : {B : Type 0} (rows : B → List Row) (told : B → Told) (d : Desk) (c o : ℕ) (t : Task) (mid after : List (Option B)) (i : ℕ) → (c ≡ o → ⊥) → o < number_of d.clients.tagged → is_own (window_of d.clients o) i ≡ true
     → IsRight rows (seen_by d o) (slot_at d.slots i) (in_slot mid i) → ToOthers rows told d c t mid after → IsRight rows (seen_by (desk_by d c t) o) (slot_at d.slots i) (in_slot after i)
-other_right rows told d c o t mid after i differ less own right (none_shown is same) =
+other_right rows told d c o t mid after i differ less own right (none_shown alike same) =
     subst (λ views. IsRight rows (seen_by (desk_by d c t) o) (slot_at d.slots i) (in_slot views i)) (sym same)
-    (right_like rows (seen_by d o) (seen_by (desk_by d c t) o) (slot_at d.slots i) (in_slot mid i) (seen_private d c t o differ is) right)
-other_right rows told d c o t mid after i differ less own right (all_shown is shown) = shown.right o i (is_one_of c (number_of d.clients.tagged) o less (λ same. differ (sym same))) own
+    (right_alike rows (seen_by d o) (seen_by (desk_by d c t) o) (slot_at d.slots i) (in_slot mid i) (alike o differ) right)
+other_right rows told d c o t mid after i differ less own right (all_shown shown) = shown.right o i (is_one_of c (number_of d.clients.tagged) o less (λ same. differ (sym same))) own
 
 other_told : {B : Type 0} (rows : B → List Row) (told : B → Told) (d : Desk) (c o : ℕ) (t : Task) (before mid after : List (Option B)) (i : ℕ) → (c ≡ o → ⊥) → o < number_of d.clients.tagged → is_own (window_of d.clients o) i ≡ true
     → in_slot mid i ≡ in_slot before i → ToOthers rows told d c t mid after → IsToldAtMost told (changes_of (seen_by d o) (seen_by (desk_by d c t) o) (slot_at d.slots i)) (in_slot before i) (in_slot after i)
-other_told rows told d c o t before mid after i differ less own kept (none_shown is same) = told_same told _ (in_slot before i) (in_slot after i) (ap (λ views. in_slot views i) same ∙ kept)
-other_told rows told d c o t before mid after i differ less own kept (all_shown is shown) =
+other_told rows told d c o t before mid after i differ less own kept (none_shown alike same) = told_same told _ (in_slot before i) (in_slot after i) (ap (λ views. in_slot views i) same ∙ kept)
+other_told rows told d c o t before mid after i differ less own kept (all_shown shown) =
     told_behind told _ (in_slot before i) (in_slot mid i) (in_slot after i) kept (shown.counted o i (is_one_of c (number_of d.clients.tagged) o less (λ same. differ (sym same))) own)
 
 -- What is to be shown of a slot.
@@ -284,21 +334,22 @@ far_unshown holding seen s st none i far =
 
 -- ---- where it was shown, or was not to be
 
-shown_by : {B : Type 0} (rows : B → List Row) (told : B → Told) (d : Desk) (c : ℕ) (t : Task) (mid after : List (Option B)) (b : Bool) → is_private (order_kind t.order) ≡ b → (is_private (order_kind t.order) ≡ true → after ≡ mid)
-    → (is_private (order_kind t.order) ≡ false → AreShownTo rows told (but_one c (number_of d.clients.tagged)) d (desk_by d c t) mid after) → ToOthers rows told d c t mid after
-shown_by rows told d c t mid after true is none all = none_shown is (none is)
-shown_by rows told d c t mid after false is none all = all_shown is (all is)
+shown_by : {B : Type 0} (rows : B → List Row) (told : B → Told) (d : Desk) (c : ℕ) (t : Task) (mid after : List (Option B)) (b : Bool) → is_seen t.order ≡ b → ((other : ℕ) → length (seen_by d other).seat.filter ≤ length d.shared.base.games)
+    → (is_seen t.order ≡ false → after ≡ mid) → (is_seen t.order ≡ true → AreShownTo rows told (but_one c (number_of d.clients.tagged)) d (desk_by d c t) mid after) → ToOthers rows told d c t mid after
+shown_by rows told d c t mid after false is within none all = none_shown (λ other differ. seen_alike d c t other differ (within other) is) (none is)
+shown_by rows told d c t mid after true is within none all = all_shown (all is)
 
-to_others : {A E B : Type 0} (r : Result A E) (rows : B → List Row) (told : B → Told) (d : Desk) (c : ℕ) (t : Task) (mid after : List (Option B)) → (is_private (order_kind t.order) ≡ true → after ≡ mid)
-    → (is_private (order_kind t.order) ≡ false → OnOk r (AreShownTo rows told (but_one c (number_of d.clients.tagged)) d (desk_by d c t) mid after)) → OnOk r (ToOthers rows told d c t mid after)
-to_others (Ok x) rows told d c t mid after none all = shown_by rows told d c t mid after (is_private (order_kind t.order)) refl none all
-to_others (Err e) rows told d c t mid after none all = tt
+to_others : {A E B : Type 0} (r : Result A E) (rows : B → List Row) (told : B → Told) (d : Desk) (c : ℕ) (t : Task) (mid after : List (Option B)) → ((other : ℕ) → length (seen_by d other).seat.filter ≤ length d.shared.base.games)
+    → (is_seen t.order ≡ false → after ≡ mid) → (is_seen t.order ≡ true → OnOk r (AreShownTo rows told (but_one c (number_of d.clients.tagged)) d (desk_by d c t) mid after)) → OnOk r (ToOthers rows told d c t mid after)
+to_others (Ok x) rows told d c t mid after within none all = shown_by rows told d c t mid after (is_seen t.order) refl within none all
+to_others (Err e) rows told d c t mid after within none all = tt
 
 pub all_shown_to : {A E B : Type 0} (r : Result A E) (rows : B → List Row) (told : B → Told) (d : Desk) (c : ℕ) (t : Task) (before mid after : List (Option B)) → c < length d.seats → c < number_of d.clients.tagged → AllRight rows d before
     → ViewsDone rows told (window_of d.clients c) (seen_by d c) t before mid → AreLeft (touches (window_of d.clients c) (seen_by d c) t.order) before mid → ((i : ℕ) → 8 ≤ i → is_shown (slot_at d.slots i) ≡ false)
-    → (is_private (order_kind t.order) ≡ true → after ≡ mid) → (is_private (order_kind t.order) ≡ false → OnOk r (AreShownTo rows told (but_one c (number_of d.clients.tagged)) d (desk_by d c t) mid after)) → OnOk r (Shown rows told d c t before mid after)
-all_shown_to r rows told d c t before mid after there room right done left few none all =
-    shown_ok r rows told d c t before mid after there room right done left few (to_others r rows told d c t mid after none all)
+    → ((other : ℕ) → length (seen_by d other).seat.filter ≤ length d.shared.base.games)
+    → (is_seen t.order ≡ false → after ≡ mid) → (is_seen t.order ≡ true → OnOk r (AreShownTo rows told (but_one c (number_of d.clients.tagged)) d (desk_by d c t) mid after)) → OnOk r (Shown rows told d c t before mid after)
+all_shown_to r rows told d c t before mid after there room right done left few within none all =
+    shown_ok r rows told d c t before mid after there room right done left few (to_others r rows told d c t mid after within none all)
   where
     shown_ok : {A E B : Type 0} (r : Result A E) (rows : B → List Row) (told : B → Told) (d : Desk) (c : ℕ) (t : Task) (before mid after : List (Option B)) → c < length d.seats → c < number_of d.clients.tagged → AllRight rows d before
         → ViewsDone rows told (window_of d.clients c) (seen_by d c) t before mid → AreLeft (touches (window_of d.clients c) (seen_by d c) t.order) before mid → ((i : ℕ) → 8 ≤ i → is_shown (slot_at d.slots i) ≡ false)
@@ -315,14 +366,14 @@ ok_told (Ok x) rows told d c t before mid after shown = told_most rows told d c 
 ok_told (Err e) rows told d c t before mid after shown = tt
 
 -- A desk whose slots a command leaves.
-pub later_of : (d : Desk) (c : ℕ) (t : Task) → is_private (order_kind t.order) ≡ false → IsLater d (desk_by d c t)
-later_of d c t is = record { slots = slots_public (window_of d.clients c) (seen_by d c) t is; clients = refl }
+pub later_of : (d : Desk) (c : ℕ) (t : Task) → is_seen t.order ≡ true → IsLater d (desk_by d c t)
+later_of d c t is = record { slots = slots_stay (window_of d.clients c) (seen_by d c) t is; clients = refl }
 
-pub left_after : {B : Type 0} (d : Desk) (c : ℕ) (t : Task) (before mid after : List (Option B)) → AreLeft (touches (window_of d.clients c) (seen_by d c) t.order) before mid → (is_private (order_kind t.order) ≡ true → after ≡ mid)
-    → (is_private (order_kind t.order) ≡ false → AreLeft (λ i. is_shown (slot_at d.slots i)) mid after) → AreLeft (λ i. is_shown (slot_at d.slots i) || watches (window_of d.clients c) t.order i) before after
-left_after {B = B} d c t before mid after left none later = elim (either (is_private (order_kind t.order))) [
-  | inl is ↦ subst (λ (views : List (Option B)). AreLeft (λ i. is_shown (slot_at d.slots i) || watches (window_of d.clients c) t.order i) before views) (sym (none is)) (left_first d c t.order before mid left)
-  | inr is ↦ left_behind d c t.order before mid after left (later is)
+pub left_after : {B : Type 0} (d : Desk) (c : ℕ) (t : Task) (before mid after : List (Option B)) → AreLeft (touches (window_of d.clients c) (seen_by d c) t.order) before mid → (is_seen t.order ≡ false → after ≡ mid)
+    → (is_seen t.order ≡ true → AreLeft (λ i. is_shown (slot_at d.slots i)) mid after) → AreLeft (λ i. is_shown (slot_at d.slots i) || watches (window_of d.clients c) t.order i) before after
+left_after {B = B} d c t before mid after left none later = elim (either (is_seen t.order)) [
+  | inl is ↦ left_behind d c t.order before mid after left (later is)
+  | inr is ↦ subst (λ (views : List (Option B)). AreLeft (λ i. is_shown (slot_at d.slots i) || watches (window_of d.clients c) t.order i) before views) (sym (none is)) (left_first d c t.order before mid left)
 ]
 
 pub held_on_ok : {A E H : Type 0} (r : Result A E) (new old : H) (P : H → Type 0) → OnOk r (new ≡ old) → P old → OnOk r (P new)

@@ -14,3 +14,4 @@ pub mod LineLaws
 pub mod ServeLaws
 pub mod SitLaws
 pub mod AroundLaws
+pub mod UnseenLaws

@@ -1,18 +1,18 @@
 -- The views of all clients behind a command of one.
-use Rattle.std.proofs.Common.{◌≡◌, ◌<◌, ◌≤◌, ◌+◌, ℕ, zero, suc, Bool, true, false, cond, ◌&&◌, ◌==◌, List, [], ◌∷◌, Option, Some, None, Result, Ok, Err, All, OnOk, get_or, set, slice_get, unwrap_or, length, refl, sym, ap, ap₂, subst, ◌∙◌, arith, ◌⊎◌, inl, inr}
+use Rattle.std.proofs.Common.{◌≡◌, ◌<◌, ◌≤◌, ◌+◌, ℕ, zero, suc, Bool, true, false, cond, ◌&&◌, ◌==◌, List, [], ◌∷◌, Option, Some, Result, Ok, Err, All, OnOk, get_or, set, slice_get, unwrap_or, length, refl, sym, ap, ap₂, subst, ◌∙◌, arith, ◌⊎◌, inl, inr}
 use Rattle.std.proofs.lemmas.Bool.{eqb-false, eqb-true}
 use Rattle.std.proofs.lemmas.List.{get_or-map, length-map}
 use Rattle.filter_seat.specs.Seats.{FitsGames, Seat, first_seat}
 use Rattle.filter_seat.specs.declared.seat.Seat.{Seat as SeatStruct}
 use Rattle.script_lines.specs.Clients.{Clients}
+use Rattle.shell_commands.proofs.MarkLaws.{CountAlike, right_alike}
 use Rattle.shell_state.specs.Slots.{Slot, slot_at}
 use Rattle.shell_state.specs.Slots.Slot.{empty, idle, shows}
 use Rattle.shell_state.specs.State.{Shared, State}
 use Rattle.shell_state.specs.Slots.{exactly_on}
 use Rattle.shell_state.specs.Meeting.{tree_hits}
 use Rattle.tree_live.specs.Slots.{in_slot}
-use Rattle.tree_live.specs.Views.{Shows, Told}
-use Rattle.tree_rows.specs.declared.hit.GameHit.{GameHit}
+use Rattle.tree_live.specs.Views.{Told}
 use Rattle.tree_rows.specs.declared.row.Row.{Row}
 use Rattle.view_commands.specs.Views.{AreLeft, AreRight, AreToldAtMost, IsRight, IsToldAtMost, changes_of, is_own, is_shown, shown_hits, slot_hits}
 use Rattle.cell_core.specs.Packed.{Packed}
@@ -32,11 +32,11 @@ pub record Alike (s t : State) : Type 0 where
 same_hits : (s t : State) (board : Packed) → Alike s t → shown_hits s board ≡ shown_hits t board
 same_hits s t board alike = ap₂ (λ (plies : List (Option ℕ)) (h : Shared). tree_hits (exactly_on board) plies h.base.games) alike.filter alike.shared
 
+pub count_alike : (s t : State) → Alike s t → CountAlike s t
+count_alike s t alike = λ board. sym (same_hits s t board alike)
+
 pub right_like : {B : Type 0} (rows : B → List Row) (s t : State) (slot : Slot) (view : Option B) → Alike s t → IsRight rows s slot view → IsRight rows t slot view
-right_like rows s t empty view alike is = is
-right_like rows s t idle view alike is = is
-right_like rows s t (shows board) None alike is = is
-right_like rows s t (shows board) (Some view) alike is = subst (λ (hits : List GameHit). Shows hits (rows view)) (same_hits s t board alike) is
+right_like rows s t slot view alike is = right_alike rows s t slot view (count_alike s t alike) is
 
 pub changes_like : (s s' t t' : State) (slot : Slot) → Alike s t → Alike s' t' → changes_of s s' slot ≡ changes_of t t' slot
 changes_like s s' t t' empty alike later = refl

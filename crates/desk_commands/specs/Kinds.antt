@@ -33,3 +33,11 @@ order_kind (Err fault) = Private
 abbrev pub is_private : Kind → Bool
 is_private Private = true
 is_private _ = false
+
+-- Whether a line may change the trees that other clients watch. A tree counts of a game its result, ratings, date and
+-- moves. A game that is added is out of the filters of the others.
+abbrev pub is_seen : Order → Bool
+is_seen (Ok (Replace game word)) = true
+is_seen (Ok (Tag game edit)) = true
+is_seen (Ok Compact) = true
+is_seen _ = false

@@ -1,6 +1,6 @@
 //! What the commands of one client may change of what another one sees.
 ghost use Rattle.std.specs.Prelude.{◌≡◌};
-ghost use Rattle.desk_commands.specs.Kinds.{command_kind, is_private, order_kind};
+ghost use Rattle.desk_commands.specs.Kinds.{command_kind, is_seen, order_kind};
 
 use script_lines::Order;
 use script_text::Command;
@@ -28,13 +28,16 @@ pub(crate) fn order_kind(order: &Order) -> Kind
     }
 }
 
-// Whether a line is private.
-pub(crate) fn is_private(order: &Order) -> bool
-    ensures private { result ≡ is_private (order_kind order.now) }
+// Whether other clients may see what a line does in the trees that they watch.
+pub(crate) fn is_seen(order: &Order) -> bool
+    ensures seen { result ≡ is_seen order.now }
 {
-    match order_kind(order) {
-        Kind::Private => true,
-        Kind::Public | Kind::Adds | Kind::Moves => false,
+    match order {
+        Ok(command) => match command {
+            Command::Replace(..) | Command::Tag(..) | Command::Compact => true,
+            _ => false,
+        },
+        Err(_) => false,
     }
 }
 

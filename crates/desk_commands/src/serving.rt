@@ -19,13 +19,13 @@ ghost use Rattle.shell_state.specs.declared.halt.Halt.TheVariants as halt;
 ghost use Rattle.view_commands.specs.Views.{AreLeft, AreToldAtMost, is_shown};
 ghost use Rattle.desk_commands.specs.Desk.{Desk as PlainDesk, desk_by, desks, lines_to, own_tasks, seen_by, window_of};
 ghost use Rattle.desk_commands.specs.Doing.{doings, most_told_by};
-ghost use Rattle.desk_commands.specs.Kinds.{is_private, order_kind};
+ghost use Rattle.desk_commands.specs.Kinds.{is_seen};
 ghost use Rattle.desk_commands.specs.Showing.{AreRightTo, AreShownTo, IsLater, but_one};
 ghost use Rattle.desk_commands.specs.Standing.{BrokenLine, DeskSound, DeskStands, SettledLine, line_left, line_price};
 ghost use Rattle.desk_commands.specs.Views.{AllRight, LineShown, line_touches};
 
 use crate::desk::Desk;
-use crate::kinds::is_private;
+use crate::kinds::is_seen;
 use crate::saying::{say_late, say_nobody};
 use crate::showing::{keeps_eight, show_others};
 use crate::sitting::serve_seated;
@@ -215,7 +215,7 @@ fn serve_by<F: Files, B: Source, K: Sink>(
     }
 }
 
-// Shows what a client has done to the others, if it may concern them.
+// Shows the others what a client has done, if they may see it in their trees.
 fn show_after(
     alloc: Global,
     desk: &mut Desk,
@@ -227,16 +227,16 @@ fn show_after(
     requires tables { TablesFit desk.old.holding }
     ensures same { OnOk result (desk.new ≡ desk.old) }
     ensures clients { desk.new.clients ≡ desk.old.clients }
-    ensures private { is_private (order_kind order.now) ≡ true → views.new ≡ views.old }
-    ensures shown { (seen : Seen) (d later : PlainDesk) → is_private (order_kind order.now) ≡ false → DeskStands desk.old seen later → IsLater d later → AreRightTo (λ b. rows b) (but_one client (if d.clients.tagged then 4 else 1)) d views.old → OnOk result (AreShownTo (λ b. rows b) (λ b. told b) (but_one client (if d.clients.tagged then 4 else 1)) d later views.old views.new) }
-    ensures left { (seen : Seen) (d later : PlainDesk) → is_private (order_kind order.now) ≡ false → DeskStands desk.old seen later → IsLater d later → AreLeft (λ i. is_shown (slot_at d.slots i)) views.old views.new }
+    ensures unseen { is_seen order.now ≡ false → views.new ≡ views.old }
+    ensures shown { (seen : Seen) (d later : PlainDesk) → is_seen order.now ≡ true → DeskStands desk.old seen later → IsLater d later → AreRightTo (λ b. rows b) (but_one client (if d.clients.tagged then 4 else 1)) d views.old → OnOk result (AreShownTo (λ b. rows b) (λ b. told b) (but_one client (if d.clients.tagged then 4 else 1)) d later views.old views.new) }
+    ensures left { (seen : Seen) (d later : PlainDesk) → is_seen order.now ≡ true → DeskStands desk.old seen later → IsLater d later → AreLeft (λ i. is_shown (slot_at d.slots i)) views.old views.new }
     ensures number { length views.new ≡ length views.old }
     ensures memory { IfErr result (λ e. e ≡ halt.Device stop.Memory) }
 {
-    if is_private(order) {
-        Ok(())
-    } else {
+    if is_seen(order) {
         show_all(alloc, desk, views, client)
+    } else {
+        Ok(())
     }
 }
 

@@ -153,7 +153,7 @@ code_hit : (query : PosQuery) (code : Option ℕ) (held : Held) → hit_of_game 
 code_hit query None held = refl
 code_hit query (Some code) held = refl
 
-classified_hits : (table : List Opening) (query : PosQuery) (games : List Held) → hits_on query (map (λ (held : Held). with_code (eco_of table held.game) held) games) ≡ hits_on query games
+pub classified_hits : (table : List Opening) (query : PosQuery) (games : List Held) → hits_on query (map (λ (held : Held). with_code (eco_of table held.game) held) games) ≡ hits_on query games
 classified_hits table query [] = refl
 classified_hits table query (held ∷ games) =
     ap₂ (λ (hit : Option _) (later : List (Option _)). hit ∷ later) (code_hit query (eco_of table held.game) held) (classified_hits table query games)

@@ -67,7 +67,7 @@ marked_more (first ∷ games) game old mid new marked does heads = (
 )
 
 -- Trees count of marked games what they did.
-deleted_hits : (query : PosQuery) (games : List ℕ) (base : Base) → hits_on query (all_deleted games base).games ≡ hits_on query base.games
+pub deleted_hits : (query : PosQuery) (games : List ℕ) (base : Base) → hits_on query (all_deleted games base).games ≡ hits_on query base.games
 unfolding deleted
 deleted_hits query [] base = refl
 deleted_hits query (game ∷ games) base =

@@ -6,3 +6,4 @@ pub mod SlotLaws
 pub mod ShownLaws
 pub mod ViewLaws
 pub mod WindowLaws
+pub mod MarkLaws

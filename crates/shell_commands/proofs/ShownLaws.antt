@@ -42,10 +42,12 @@ shown_import {A} (Ok x) new new' work line given seen s told told' told'' same b
 shown_import {A} (Err e) new new' work line given seen s told told' told'' same but is written halted output =
     line_served {A = A} (Err e) (Stands new seen) (Stands new seen) s work line given told told' told'' but is but.stands written halted output
 
+pub quiet_sound : (old new : Holding) (work : Work) (line : List ℕ) (seen : Seen) → Quiet old work new line → Sound old seen → Sound new seen
+quiet_sound old new work line seen quiet sound =
+    record { fits = quiet.fits; tables = quiet.tables sound.tables; base = quiet.base sound.base; at_end = subst (λ (end : ℕ). IsEnd end seen) (sym quiet.end) sound.at_end }
+
 pub shown_sound : {A : Type 0} (r : Result A Halt) (old new new' : Holding) (work : Work) (line : List ℕ) (seen : Seen) → OnOk r (new' ≡ new) → Quiet old work new line → Sound old seen → OnOk r (Sound new' seen)
-shown_sound (Ok x) old new new' work line seen same quiet sound =
-    let P : Holding → Type 0 = λ h. Sound h seen in
-    subst P (sym same) (record { fits = quiet.fits; tables = quiet.tables sound.tables; base = quiet.base sound.base; at_end = subst (λ (end : ℕ). IsEnd end seen) (sym quiet.end) sound.at_end })
+shown_sound (Ok x) old new new' work line seen same quiet sound = subst (λ (h : Holding). Sound h seen) (sym same) (quiet_sound old new work line seen quiet sound)
 shown_sound (Err e) old new new' work line seen same quiet sound = tt
 
 -- What is shown behind a text.

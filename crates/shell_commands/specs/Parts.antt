@@ -2,16 +2,17 @@
 use Rattle.script_text.specs.declared.command.Command.{Command}
 use Rattle.script_text.specs.declared.command.Command.TheVariants.{Nothing, Find, SearchPosition, SearchMaterial, SearchHeader, Reset, Clear, Negate, Restrict, Keep, Take, And, Or, Drop, Hits, List as Listing, Show, Export, Import, Replace, Eco, Tag, Delete, Undelete, Mark, Tree, Watch, View, Unwatch, Cross, Twins, Index, Save, Info, Demo, Quit, Compact}
 use Rattle.shell_commands.specs.declared.parts.Part.{Part}
-use Rattle.shell_commands.specs.declared.parts.Part.TheVariants.{Edits, Games, Intake, Lines, Searches, Slots, Texts}
+use Rattle.shell_commands.specs.declared.parts.Part.TheVariants.{Edits, Games, Intake, Lines, Marks, Searches, Slots, Texts}
 
 -- The parts of the commands:
 --
 -- - those on slots,
--- - those that change the filter or games and use no file,
+-- - those that change the filter and use no file,
 -- - those that search games which they read,
 -- - the one that takes games in,
 -- - those that edit games and use the files,
--- - the others that change games,
+-- - the one that makes games,
+-- - those that change games in what no view shows,
 -- - those that leave slots, filter and games.
 abbrev pub part_of : Command → Part
 part_of Nothing = Texts
@@ -34,17 +35,17 @@ part_of (Show game) = Texts
 part_of Export = Texts
 part_of (Import word) = Intake
 part_of (Replace game word) = Edits
-part_of (Eco word) = Games
+part_of (Eco word) = Marks
 part_of (Tag game edit) = Edits
-part_of (Delete game) = Lines
-part_of (Undelete game) = Lines
-part_of (Mark game bit on) = Lines
+part_of (Delete game) = Marks
+part_of (Undelete game) = Marks
+part_of (Mark game bit on) = Marks
 part_of (Tree board side) = Texts
 part_of (Watch slot board side) = Slots
 part_of (View slot) = Slots
 part_of (Unwatch slot) = Slots
 part_of (Cross event) = Texts
-part_of (Twins depth) = Games
+part_of (Twins depth) = Marks
 part_of (Index depth) = Texts
 part_of Save = Texts
 part_of Info = Texts

@@ -23,7 +23,6 @@ use crate::showing::{show_line, show_rows};
 use base_files::{Files, Sink, Source};
 use edit_commands::{compact_line, tag_line};
 use intake_commands::{import, replace_line};
-use report_commands::{eco, twins};
 use script_text::Command;
 use search_commands::demo;
 use shell_state::{Halt, Machine};
@@ -128,25 +127,22 @@ fn edit_line<F: Files, B: Source>(
     }
 }
 
-// Does what another such command says, and then shows what has changed.
-#[tactic(auto, using(shell_state::proofs::Causing::unsaid_memory))]
-pub(crate) fn serve_change<F: Files, B: Source, K: Sink>(
+// Adds the games that `demo` makes, and then shows what has changed.
+pub(crate) fn serve_demo<F: Files, K: Sink>(
     alloc: Global,
     machine: &mut Machine,
     views: &mut [Option<Box<dyn TreeView>>],
     files: &mut F,
-    body: &mut B,
     out: &mut K,
     command: &Command,
     window: Window,
 ) -> Result<(), Halt>
     requires room { window.first + window.count ≤ 8 }
     requires sound { Sound machine.old (F.seen files.old) }
-    requires command { IsSound command.now }
     requires part { part_of command.now ≡ Games }
-    ensures serves { (s : State) (text : List ℕ) → Stands machine.old (F.seen files.old) s → B.left body.old ≡ Some text → Serves works (Stands machine.new (F.seen files.new)) Broken s (command_work window command.now text) (K.taken out.old) (K.taken out.new) result }
-    ensures views { (s : State) (text : List ℕ) → Stands machine.old (F.seen files.old) s → B.left body.old ≡ Some text → AreRight (λ b. rows b) window s views.old → OnOk result (ViewsDone (λ b. rows b) (λ b. told b) window s (task (Ok command.now) text) views.old views.new) }
-    ensures left { (s : State) (text : List ℕ) → Stands machine.old (F.seen files.old) s → B.left body.old ≡ Some text → AreRight (λ b. rows b) window s views.old → AreLeft (touches window s (Ok command.now)) views.old views.new }
+    ensures serves { (s : State) (text : List ℕ) → Stands machine.old (F.seen files.old) s → Serves works (Stands machine.new (F.seen files.new)) Broken s (command_work window command.now text) (K.taken out.old) (K.taken out.new) result }
+    ensures views { (s : State) (text : List ℕ) → Stands machine.old (F.seen files.old) s → AreRight (λ b. rows b) window s views.old → OnOk result (ViewsDone (λ b. rows b) (λ b. told b) window s (task (Ok command.now) text) views.old views.new) }
+    ensures left { (s : State) → Stands machine.old (F.seen files.old) s → AreRight (λ b. rows b) window s views.old → AreLeft (touches window s (Ok command.now)) views.old views.new }
     ensures others { AreLeft (is_own window) views.old views.new }
     ensures number { length views.new ≡ length views.old }
     ensures sound { OnOk result (Sound machine.new (F.seen files.new)) }
@@ -155,45 +151,15 @@ pub(crate) fn serve_change<F: Files, B: Source, K: Sink>(
     ensures choices { (F.seen files.new).choices ≡ (F.seen files.old).choices }
     ensures asks { Asks machine.old (command_work all_slots command.now []) (F.asked files.old) (F.asked files.new) }
     ensures asks_demo { (s : State) (seed games : ℕ) → Stands machine.old (F.seen files.old) s → command.now ≡ Demo seed games → F.asked files.new ≤ F.asked files.old + demo_price s seed games }
-    ensures same { B.origin body.new ≡ B.origin body.old }
     ensures unsaid { writes_early (Ok command.now) ≡ false → IfErr result (λ e. Unsaid e (K.taken out.old) (K.taken out.new)) }
     ensures none_lost { NoneLost (K.taken out.old) (K.taken out.new) }
-    ensures causes { Causes WhyHalt result (counts (F.faults files.old) (B.faults body.old) (K.faults out.old)) (counts (F.faults files.new) (B.faults body.new) (K.faults out.new)) }
-{
-    match change_games(alloc, machine, files, body, out, command) {
-        Ok(()) => show_rows(alloc, machine, views, window),
-        Err(halt) => Err(halt),
-    }
-}
-
-// Does what it says, and shows nothing.
-fn change_games<F: Files, B: Source, K: Sink>(
-    alloc: Global,
-    machine: &mut Machine,
-    files: &mut F,
-    body: &mut B,
-    out: &mut K,
-    command: &Command,
-) -> Result<(), Halt>
-    requires sound { Sound machine.old (F.seen files.old) }
-    requires command { IsSound command.now }
-    requires part { part_of command.now ≡ Games }
-    ensures serves { (w : WindowValue) (s : State) (text : List ℕ) → Stands machine.old (F.seen files.old) s → B.left body.old ≡ Some text → Serves works (Stands machine.new (F.seen files.new)) Broken s (command_work w command.now text) (K.taken out.old) (K.taken out.new) result }
-    ensures sound { OnOk result (Sound machine.new (F.seen files.new)) }
-    ensures carries { (s : State) → Stands machine.old (F.seen files.old) s → StillCarry (F.seen files.new) s (command_work all_slots command.now []).left }
-    ensures unchanged { (command_work all_slots command.now []).writes ≡ false → F.seen files.new ≡ F.seen files.old }
-    ensures choices { (F.seen files.new).choices ≡ (F.seen files.old).choices }
-    ensures asks { Asks machine.old (command_work all_slots command.now []) (F.asked files.old) (F.asked files.new) }
-    ensures asks_demo { (s : State) (seed games : ℕ) → Stands machine.old (F.seen files.old) s → command.now ≡ Demo seed games → F.asked files.new ≤ F.asked files.old + demo_price s seed games }
-    ensures same { B.origin body.new ≡ B.origin body.old }
-    ensures unsaid { writes_early (Ok command.now) ≡ false → IfErr result (λ e. Unsaid e (K.taken out.old) (K.taken out.new)) }
-    ensures none_lost { NoneLost (K.taken out.old) (K.taken out.new) }
-    ensures causes { Causes WhyHalt result (counts (F.faults files.old) (B.faults body.old) (K.faults out.old)) (counts (F.faults files.new) (B.faults body.new) (K.faults out.new)) }
+    ensures causes { Causes WhyHalt result (counts (F.faults files.old) 0 (K.faults out.old)) (counts (F.faults files.new) 0 (K.faults out.new)) }
 {
     match command {
-        Command::Eco(_) => eco(alloc, machine, files, body, out),
-        Command::Twins(depth) => twins(alloc, machine, files, out, *depth),
-        Command::Demo(seed, games) => demo(alloc, machine, files, out, *seed, *games),
+        Command::Demo(seed, games) => match demo(alloc, machine, files, out, *seed, *games) {
+            Ok(()) => show_rows(alloc, machine, views, window),
+            Err(halt) => Err(halt),
+        },
         _ => unreachable!(),
     }
 }

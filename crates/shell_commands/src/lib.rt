@@ -4,6 +4,7 @@
 mod changes;
 mod laws;
 mod lines;
+mod marks;
 mod parts;
 mod saying;
 mod searches;

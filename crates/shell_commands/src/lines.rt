@@ -1,4 +1,4 @@
-//! The commands that change the filter or a game without the files, and answer a line.
+//! The commands that change the filter without the files, and answer a line.
 ghost use Rattle.std.specs.Prelude.{◌≡◌, ◌+◌, ◌≤◌, ℕ, List, [], Ok, OnOk, length};
 ghost use Rattle.base_files.specs.Seen.{Seen};
 ghost use Rattle.command_runs.specs.Counts.{Causes, counts};
@@ -17,7 +17,6 @@ ghost use Rattle.view_commands.specs.declared.window.Window.{Window as WindowVal
 
 use crate::showing::show_line;
 use base_files::Sink;
-use edit_commands::{delete, mark, undelete};
 use filter_commands::{and, clear, negate, or, reset, restrict, take};
 use script_text::Command;
 use search_commands::search_header;
@@ -69,9 +68,6 @@ fn change_line(machine: &mut Machine, command: &Command) -> Line
         Command::Take(name) => take(machine, name),
         Command::And(name) => and(machine, name),
         Command::Or(name) => or(machine, name),
-        Command::Delete(number) => delete(machine, *number),
-        Command::Undelete(number) => undelete(machine, *number),
-        Command::Mark(number, bit, on) => mark(machine, *number, *bit, *on),
         _ => unreachable!(),
     }
 }

@@ -9,7 +9,7 @@ use script_text::Command;
 pub(crate) enum Part {
     /// What a slot shows, or it writes what one shows.
     Slots,
-    /// The filter or a game, without the files: its text is one line.
+    /// The filter, without the files: its text is one line.
     Lines,
     /// The filter, by games that it reads.
     Searches,
@@ -17,8 +17,10 @@ pub(crate) enum Part {
     Intake,
     /// A game or all of them, with the files: its text is one line.
     Edits,
-    /// Games or the filter, in another way.
+    /// It makes games, and adds them.
     Games,
+    /// Games, in what no view shows: their marks and their opening codes.
+    Marks,
     /// Nothing: it writes a text.
     Texts,
 }
@@ -36,16 +38,18 @@ pub(crate) fn part_of(command: &Command) -> Part
         | Command::Restrict(..)
         | Command::Take(_)
         | Command::And(_)
-        | Command::Or(_)
-        | Command::Delete(_)
-        | Command::Undelete(_)
-        | Command::Mark(..) => Part::Lines,
+        | Command::Or(_) => Part::Lines,
         Command::Find(..) | Command::SearchPosition(..) | Command::SearchMaterial(..) => {
             Part::Searches
         }
         Command::Import(_) => Part::Intake,
         Command::Replace(..) | Command::Tag(..) | Command::Compact => Part::Edits,
-        Command::Eco(_) | Command::Twins(_) | Command::Demo(..) => Part::Games,
+        Command::Demo(..) => Part::Games,
+        Command::Delete(_)
+        | Command::Undelete(_)
+        | Command::Mark(..)
+        | Command::Eco(_)
+        | Command::Twins(_) => Part::Marks,
         _ => Part::Texts,
     }
 }

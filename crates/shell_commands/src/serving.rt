@@ -16,8 +16,9 @@ ghost use Rattle.shell_state.specs.Work.{works};
 ghost use Rattle.view_commands.specs.Views.{AreLeft, AreRight, all_slots, is_own};
 ghost use Rattle.text_commands.specs.GameTexts.{ExportCut};
 
-use crate::changes::{serve_change, serve_edit, serve_import};
+use crate::changes::{serve_demo, serve_edit, serve_import};
 use crate::lines::serve_line;
+use crate::marks::write_mark;
 use crate::parts::{Part, part_of};
 use crate::saying::say;
 use crate::searches::serve_search;
@@ -134,7 +135,8 @@ fn serve_command<F: Files, B: Source, K: Sink>(
         Part::Searches => serve_search(alloc, machine, views, files, out, command, window),
         Part::Intake => serve_import(alloc, machine, views, files, body, out, window),
         Part::Edits => serve_edit(alloc, machine, views, files, body, out, command, window),
-        Part::Games => serve_change(alloc, machine, views, files, body, out, command, window),
+        Part::Games => serve_demo(alloc, machine, views, files, out, command, window),
+        Part::Marks => write_mark(alloc, machine, files, body, out, command),
         Part::Texts => write_text(alloc, machine, files, out, command),
     }
 }

@@ -4,7 +4,7 @@ use Rattle.script_lines.specs.Clients.{Clients}
 use Rattle.script_text.specs.Tasks.{task}
 use Rattle.shell_state.proofs.Served.{on_ok}
 use Rattle.tree_live.specs.Slots.{in_slot}
-use Rattle.desk_commands.proofs.DeskLaws.{all_shown_to, far_unshown, held_on_ok, later_of, left_after, left_first, ok_right, ok_told, right_others}
+use Rattle.desk_commands.proofs.DeskLaws.{all_shown_to, far_unshown, filters_within, held_on_ok, later_of, left_after, left_first, ok_right, ok_told, right_others}
 use Rattle.desk_commands.proofs.OwnLaws.{number_of}
 use Rattle.desk_commands.proofs.SeatedLaws.{fits_of, tables_of}
 use Rattle.desk_commands.proofs.ServeLaws.{memory_broken, memory_causes}
@@ -56,7 +56,8 @@ returns-in-Ok-clause-right g c = λ d text st told right.
     let few = far_unshown (with_seat held.holding (first_seat 0)) seen _ (st.stands (first_seat 0)) eight in
     let stands1 = c.in-Ok.ensures.stands d text st told right in
     let later = desk_by d c.args.client t in
-    let shown = all_shown_to r (λ b. (goal.TreeView-dyn g (b.vtable, b.value)).rows b.value) (λ b. (goal.TreeView-dyn g (b.vtable, b.value)).told b.value) d c.args.client t before mid after there room right (c.in-Ok.ensures.views d text st told right) (c.serve_seated.ensures.left d text st told right) few c.show_after.ensures.private
+    let within = filters_within held seen d st (fits_of held seen c.requires.sound) in
+    let shown = all_shown_to r (λ b. (goal.TreeView-dyn g (b.vtable, b.value)).rows b.value) (λ b. (goal.TreeView-dyn g (b.vtable, b.value)).told b.value) d c.args.client t before mid after there room right (c.in-Ok.ensures.views d text st told right) (c.serve_seated.ensures.left d text st told right) few within c.show_after.ensures.unseen
     (λ is. c.show_after.ensures.shown seen' d later is stands1 (later_of d c.args.client t is) (right_others (λ b. (goal.TreeView-dyn g (b.vtable, b.value)).rows b.value) d c.args.client t before mid room right (c.serve_seated.ensures.left d text st told right))) in
     ok_right r (λ b. (goal.TreeView-dyn g (b.vtable, b.value)).rows b.value) (λ b. (goal.TreeView-dyn g (b.vtable, b.value)).told b.value) d c.args.client t before mid after shown
 
@@ -76,7 +77,8 @@ returns-in-Ok-clause-counted g c = λ d text st told right.
     let few = far_unshown (with_seat held.holding (first_seat 0)) seen _ (st.stands (first_seat 0)) eight in
     let stands1 = c.in-Ok.ensures.stands d text st told right in
     let later = desk_by d c.args.client t in
-    let shown = all_shown_to r (λ b. (goal.TreeView-dyn g (b.vtable, b.value)).rows b.value) (λ b. (goal.TreeView-dyn g (b.vtable, b.value)).told b.value) d c.args.client t before mid after there room right (c.in-Ok.ensures.views d text st told right) (c.serve_seated.ensures.left d text st told right) few c.show_after.ensures.private
+    let within = filters_within held seen d st (fits_of held seen c.requires.sound) in
+    let shown = all_shown_to r (λ b. (goal.TreeView-dyn g (b.vtable, b.value)).rows b.value) (λ b. (goal.TreeView-dyn g (b.vtable, b.value)).told b.value) d c.args.client t before mid after there room right (c.in-Ok.ensures.views d text st told right) (c.serve_seated.ensures.left d text st told right) few within c.show_after.ensures.unseen
     (λ is. c.show_after.ensures.shown seen' d later is stands1 (later_of d c.args.client t is) (right_others (λ b. (goal.TreeView-dyn g (b.vtable, b.value)).rows b.value) d c.args.client t before mid room right (c.serve_seated.ensures.left d text st told right))) in
     ok_told r (λ b. (goal.TreeView-dyn g (b.vtable, b.value)).rows b.value) (λ b. (goal.TreeView-dyn g (b.vtable, b.value)).told b.value) d c.args.client t before mid after shown
 
@@ -89,7 +91,7 @@ returns-in-Ok-clause-left g c = λ d text st told right.
     let after = c.show_after.new.views in
     let stands1 = c.in-Ok.ensures.stands d text st told right in
     let later = desk_by d c.args.client t in
-    left_after d c.args.client t before mid after (c.serve_seated.ensures.left d text st told right) c.show_after.ensures.private (λ is. c.show_after.ensures.left seen' d later is stands1 (later_of d c.args.client t is))
+    left_after d c.args.client t before mid after (c.serve_seated.ensures.left d text st told right) c.show_after.ensures.unseen (λ is. c.show_after.ensures.left seen' d later is stands1 (later_of d c.args.client t is))
 
 pub returns-in-Ok-clause-sound : goal.returns-in-Ok-clause-sound
 returns-in-Ok-clause-sound g c =

@@ -1,9 +1,11 @@
 use Rattle.std.proofs.Common.{[], Ok, ap, sym, true≢false, ◌∙◌}
+use Rattle.shell_commands.proofs.MarkLaws.{marks_done}
 use Rattle.shell_commands.proofs.TaskLaws.{may_leave, still_settled}
 use Rattle.shell_commands.proofs.ViewLaws.{edits_write, is_import}
 use Rattle.shell_commands.proofs.serving.serve_command.Goals as goal
 use Rattle.shell_commands.specs.Tasks.{writes_early}
 use Rattle.shell_state.proofs.CarryLaws.{carry_of, carry_same, if_err}
+use Rattle.shell_state.proofs.Served.{on_ok}
 use Rattle.view_commands.specs.Views.{all_slots}
 
 pub returns-in-Slots-clause-serves : goal.returns-in-Slots-clause-serves
@@ -48,7 +50,23 @@ returns-in-Lines-clause-carries g c = λ s st.
 
 pub returns-in-Games-clause-serves : goal.returns-in-Games-clause-serves
 returns-in-Games-clause-serves g c = λ s text st told right.
-    c.serve_change.ensures.serves s text st told
+    c.serve_demo.ensures.serves s text st
+
+pub returns-in-Games-clause-views : goal.returns-in-Games-clause-views
+returns-in-Games-clause-views g c = λ s text st told right.
+    c.serve_demo.ensures.views s text st right
+
+pub returns-in-Marks-clause-serves : goal.returns-in-Marks-clause-serves
+returns-in-Marks-clause-serves g c = λ s text st told right.
+    c.write_mark.ensures.serves c.args.window s text st told
+
+pub returns-in-Marks-clause-views : goal.returns-in-Marks-clause-views
+returns-in-Marks-clause-views g c = λ s text st told right.
+    on_ok _ c.write_mark.result (marks_done _ _ c.args.window s c.args.command.now text c.args.views.now (sym c.in-Marks.ensures.part) right)
+
+pub returns-in-Marks-clause-carries : goal.returns-in-Marks-clause-carries
+returns-in-Marks-clause-carries g c = λ s st.
+    if_err c.write_mark.result _ (carry_same c.args.machine.now (g.F.Files.seen c.args.files.now) (g.F.Files.seen c.write_mark.new.files) s _ c.write_mark.ensures.unchanged st)
 
 pub returns-in-Texts-clause-serves : goal.returns-in-Texts-clause-serves
 returns-in-Texts-clause-serves g c = λ s text st told right.
@@ -95,7 +113,11 @@ returns-in-Intake-clause-settled g c = λ s text st told.
 
 pub returns-in-Games-clause-settled : goal.returns-in-Games-clause-settled
 returns-in-Games-clause-settled g c = λ s text st told.
-    still_settled c.serve_change.result c.args.window (g.F.Files.seen c.serve_change.new.files) s c.args.command.now text _ _ (ap may_leave (sym c.in-Games.ensures.part))
+    still_settled c.serve_demo.result c.args.window (g.F.Files.seen c.serve_demo.new.files) s c.args.command.now text _ _ (ap may_leave (sym c.in-Games.ensures.part))
+
+pub returns-in-Marks-clause-settled : goal.returns-in-Marks-clause-settled
+returns-in-Marks-clause-settled g c = λ s text st told.
+    still_settled c.write_mark.result c.args.window (g.F.Files.seen c.write_mark.new.files) s c.args.command.now text _ _ (ap may_leave (sym c.in-Marks.ensures.part))
 
 pub returns-in-Edits-clause-settled : goal.returns-in-Edits-clause-settled
 returns-in-Edits-clause-settled g c = λ s text st told. c.serve_edit.ensures.settled s text st told
