@@ -32,13 +32,10 @@ pub(crate) fn order_kind(order: &Order) -> Kind
 pub(crate) fn is_seen(order: &Order) -> bool
     ensures seen { result ≡ is_seen order.now }
 {
-    match order {
-        Ok(command) => match command {
-            Command::Replace(..) | Command::Tag(..) | Command::Compact => true,
-            _ => false,
-        },
-        Err(_) => false,
-    }
+    matches!(
+        order,
+        Ok(Command::Replace(..) | Command::Tag(..) | Command::Compact)
+    )
 }
 
 // The kind of a command.
