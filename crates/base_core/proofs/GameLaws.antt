@@ -25,7 +25,7 @@ game_at : (games : List ℕ) (kept : Kept) (i : ℕ) (e : Entry) (tags : List Ta
     head ≡ settled (head_of kept.names e tags) → IsGameAt kept games i head tree
 game_at games kept i e tags tree head at read is = λ base held represents at_held.
     let keeps = represents.each i e held at at_held in
-    let one = record-one (record_in games (extent_of e)) tags keeps.says.tags tree held.game read (record { answer = keeps.says.read }) in
+    let one = record-one (record_in games (extent_of e)) tags keeps.says.tags tree held.game read keeps.says.read in
     (is ∙ (ap (λ (t : List Tag). settled (head_of kept.names e t)) one.0 ∙ sym keeps.says.head), one.1)
 
 -- The game of a record is the base's.
@@ -39,11 +39,11 @@ no_change : (games : List ℕ) (kept : Kept) (i : ℕ) (e : Entry) (found : Opti
 no_change games kept i e None base at shown represents =
     let held = get_some base.games i (subst (λ n. i < n) represents.count (slice_get_within kept.entries i e at)) in
     let keeps = represents.each i e held.0 at held.1 in
-    shown (keeps.says.tags, (held.0.game, record { answer = keeps.says.read }))
+    shown (keeps.says.tags, (held.0.game, keeps.says.read))
 no_change games kept i e (Some found) base at shown represents =
     let held = get_some base.games i (subst (λ n. i < n) represents.count (slice_get_within kept.entries i e at)) in
     let keeps = represents.each i e held.0 at held.1 in
-    let one = record-one (record_in games (extent_of e)) shown.0 keeps.says.tags shown.1.0 held.0.game shown.1.1.0 (record { answer = keeps.says.read }) in
+    let one = record-one (record_in games (extent_of e)) shown.0 keeps.says.tags shown.1.0 held.0.game shown.1.1.0 keeps.says.read in
     let S : GameTree → Type 0 = λ g. IsSig g found in
     shown.1.1.1.1 (sig-one held.0.game found (sig_in e) (subst S one.1 shown.1.1.1.0) keeps.signed)
 

@@ -85,7 +85,7 @@ holds kept games base is = record {
       let held = from-map (λ (h : Held). h.game) base.games i game at_game in
       let keeps = is.each i e.0 held.0 e.1.0 held.1.0 in
       let H : Extent → Sig → GameTree → Type 0 = λ x s g. IsHeld games x s g in
-      let one : IsHeld games (extent_of e.0) (sig_in e.0) held.0.game = record { tags = keeps.says.tags; is_record = record { answer = keeps.says.read }; is_sig = keeps.signed } in
+      let one : IsHeld games (extent_of e.0) (sig_in e.0) held.0.game = record { tags = keeps.says.tags; is_record = keeps.says.read; is_sig = keeps.signed } in
       let two = subst (λ x. H x (sig_in e.0) held.0.game) (extent-at kept.entries i e.0 e.1.0) one in
       let three = subst (λ s. H (extent_in (map extent_of kept.entries) i) s held.0.game) e.1.1 two in
       subst (λ g. H (extent_in (map extent_of kept.entries) i) sig g) held.1.1 three;

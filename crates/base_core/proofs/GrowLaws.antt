@@ -3,7 +3,7 @@ use Rattle.std.proofs.Common.{◌≡◌, ◌≤◌, ◌+◌, ℕ, List, [], ◌+
 use Rattle.std.proofs.lemmas.List.{append-nil, drop-append-le, length-append, length-drop, take-append-le}
 use Rattle.base_files.specs.Extents.{record_in}
 use Rattle.base_files.specs.declared.extent.Extent.{Extent}
-use Rattle.game_codec.specs.RecordAnswer.{record_answer}
+use Rattle.game_codec.specs.Record.{IsRecord}
 use Rattle.index_entry.specs.declared.entry.Entry.{Entry}
 use Rattle.name_base.specs.NameLists.{NameLists}
 use Rattle.base_core.specs.Base.{Base, Held}
@@ -19,7 +19,7 @@ record-stays games more x within =
 
 pub says-stays : (names : NameLists) (games more : List ℕ) (e : Entry) (held : Held) → Says names games e held → Says names (games ++ more) e held
 says-stays names games more e held is =
-    let R : List ℕ → Type 0 = λ b. record_answer b ≡ Ok (is.tags, held.game) in
+    let R : List ℕ → Type 0 = λ b. IsRecord b is.tags held.game in
     record {
       tags = is.tags;
       within = omega (arith, is.within, length-append games more);

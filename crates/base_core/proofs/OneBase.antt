@@ -21,7 +21,7 @@ use Rattle.base_core.proofs.Results.{same_ok}
 -- An entry says one game.
 pub says-one : (names : NameLists) (games : List ℕ) (e : Entry) (held other : Held) → Says names games e held → Says names games e other → held ≡ other
 says-one names games e held other x y =
-    let one = record-one (record_in games (extent_of e)) x.tags y.tags held.game other.game (record { answer = x.read }) (record { answer = y.read }) in
+    let one = record-one (record_in games (extent_of e)) x.tags y.tags held.game other.game x.read y.read in
     let head : held.head ≡ other.head = x.head ∙ (ap (λ (tags : List Tag). settled (head_of names e tags)) one.0 ∙ sym y.head) in
     let first : held ≡ record held { head = other.head } = ap (λ (h : Head). record held { head = h }) head in
     let second : record held { head = other.head } ≡ record other { len = held.len } = ap (λ (g : GameTree). record other { game = g; len = held.len }) one.1 in

@@ -200,7 +200,7 @@ keeps-placed names games end head game ids s long are settles signed read =
       says = record {
         tags = head.tags;
         within = within-placed games bytes end long;
-        read = (subst R (sym (record-there games bytes end long)) read).answer;
+        read = subst R (sym (record-there games bytes end long)) read;
         head = sym (ap settled (head-named names head ids s (length bytes) (end + padding end (length bytes)) are) ∙ settles);
         len = refl;
       };

@@ -49,9 +49,9 @@ keeps : (names : NameLists) (games : List ℕ) (e : Entry) (s : Sig) (date : Dat
 unfolding kept_entry
 keeps names games e s date within rule signed =
     let held : Held = record { head = settled (head_of names e signed.tags); game = signed.tree; len = e.len } in
-    let says : Says names games e held = record { tags = signed.tags; within = within; read = signed.read.answer; head = refl; len = refl } in
+    let says : Says names games e held = record { tags = signed.tags; within = within; read = signed.read; head = refl; len = refl } in
     let kept : Says names games (kept_entry e s date) held =
-    record { tags = signed.tags; within = within; read = signed.read.answer; head = sym (settled_kept names e s date signed.tags rule (signed.dated names)); len = refl } in
+    record { tags = signed.tags; within = within; read = signed.read; head = sym (settled_kept names e s date signed.tags rule (signed.dated names)); len = refl } in
     (held, (says, (signed.signed, record { says = kept; event_date = signed.dated names; signed = signed.signed })))
 
 -- A game that was taken, by the bytes of its record.

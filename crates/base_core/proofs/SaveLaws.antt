@@ -140,7 +140,7 @@ passes strict kept index games i held written read end g =
       fields = g.e;
       checked = checks kept.names (length games) i (entry_bytes index i) g.e (written-at kept index i g.e written read g.at) (no-id-fault kept.names g.e g.is.named) (subst P end g.is.placed);
       sig = sig_in g.e;
-      signs = record { tags = g.keeps.says.tags; tree = held.game; read = record { answer = g.keeps.says.read }; signed = g.keeps.signed };
+      signs = record { tags = g.keeps.says.tags; tree = held.game; read = g.keeps.says.read; signed = g.keeps.signed };
       derived = λ strictly. own-sig g.e;
     }
 

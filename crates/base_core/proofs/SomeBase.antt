@@ -112,7 +112,7 @@ game_of strict names games game bytes p =
         fields = e;
         read = c.read;
         named = c.named;
-        says = record { tags = p.signs.tags; within = ends_within (length games) e c.placed; read = p.signs.read.answer; head = refl; len = refl };
+        says = record { tags = p.signs.tags; within = ends_within (length games) e c.placed; read = p.signs.read; head = refl; len = refl };
       },
     )
 

@@ -6,7 +6,7 @@ use Rattle.std.proofs.lemmas.Option.{same_Some, slice_get_within}
 use Rattle.base_files.specs.Extents.{record_in}
 use Rattle.block_store.specs.Placing.{end_after, longest_file, padded, padding, placed_at}
 use Rattle.block_store.proofs.Places.{padding-fits}
-use Rattle.game_codec.specs.RecordAnswer.{record_answer}
+use Rattle.game_codec.specs.Record.{IsRecord}
 use Rattle.game_tree.specs.Settle.{settled}
 use Rattle.game_tree.specs.declared.head.Head.{Head}
 use Rattle.game_tree.specs.declared.head.Tag.{Tag}
@@ -82,7 +82,7 @@ keeps-taken of names games fresh end e ids held long are is =
     let size : length bytes ≡ e.len = record-long games e is.says.within in
     let W : ℕ → Type 0 = λ n. end + padding end n + n ≤ length (fresh ++ padded end bytes) in
     let T : ℕ → Type 0 = λ n. record_in (fresh ++ padded end bytes) (placed_at end n) ≡ bytes in
-    let R : List ℕ → Type 0 = λ b. record_answer b ≡ Ok (is.says.tags, held.game) in
+    let R : List ℕ → Type 0 = λ b. IsRecord b is.says.tags held.game in
     record {
       says = record {
         tags = is.says.tags;

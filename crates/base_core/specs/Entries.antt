@@ -1,12 +1,12 @@
 -- What an entry of the index says of its game, with the names and the record that it points to (Scid's format si4; the rule of event
 -- dates this project's own).
-use Rattle.std.specs.Prelude.{◌≡◌, ◌<◌, ◌≤◌, ◌+◌, ℕ, List, [], length, slice_get, unwrap_or, Ok}
+use Rattle.std.specs.Prelude.{◌≡◌, ◌<◌, ◌≤◌, ◌+◌, ℕ, List, [], length, slice_get, unwrap_or}
 use Rattle.base_files.specs.Extents.{record_in}
 use Rattle.base_files.specs.declared.extent.Extent.{Extent}
 use Rattle.game_tree.specs.Settle.{settled}
 use Rattle.game_tree.specs.declared.head.Head.{Head}
 use Rattle.game_tree.specs.declared.head.Tag.{Tag}
-use Rattle.game_codec.specs.RecordAnswer.{record_answer}
+use Rattle.game_codec.specs.Record.{IsRecord}
 use Rattle.index_entry.specs.declared.entry.Entry.{Entry}
 use Rattle.name_base.specs.NameLists.{NameLists}
 pub use Rattle.sig_index.specs.Signature.{sig_in}
@@ -52,6 +52,6 @@ head_of names e given = record {
 pub record Says (names : NameLists) (games : List ℕ) (e : Entry) (held : Held) : Type 0 where
   pub tags : List Tag
   pub within : e.offset + e.len ≤ length games
-  pub read : record_answer (record_in games (extent_of e)) ≡ Ok (tags, held.game)
+  pub read : IsRecord (record_in games (extent_of e)) tags held.game
   pub head : held.head ≡ settled (head_of names e tags)
   pub len : held.len ≡ e.len

@@ -19,7 +19,7 @@ use crate::base::Base;
 use crate::checking::differing;
 use crate::fault::{EditError, unread_error};
 use base_files::{Extent, Files};
-use game_codec::{Decoded, decode_game};
+use game_codec::{Decoded, MainPlace, decode_game};
 use game_tree::{Game, Head, HeadRef, Tag, Tags, settle};
 use index_entry::Entry;
 use name_base::{NameKind, Names};
@@ -153,7 +153,7 @@ fn check_unchanged(i: u32, e: &Entry, bytes: &[u8]) -> Result<(), EditError>
     ensures same { OnOk result (IsRecordWith bytes.now (sig_in e.now)) }
     ensures why { IfErr result (TellsChange i (sig_in e.now) bytes.now) }
 {
-    let sig = match signed(bytes) {
+    let sig = match signed(bytes, &mut MainPlace::new()) {
         Ok(sig) => sig,
         Err(_) => {
             return Err(EditError::Changed {

@@ -10,6 +10,7 @@ ghost use Rattle.base_core.specs.Reading.{IsDecided, IsGameDecided};
 ghost use Rattle.base_core.specs.Represents.{Kept, Represents, extents_of, heads_of, sigs_of};
 ghost use Rattle.base_core.specs.declared.fault.BaseFault.{BaseFault as Fault};
 
+use game_codec::MainPlace;
 use index_entry::{entry_of, read_index, unpack};
 use sig_index::signed;
 
@@ -49,7 +50,7 @@ fn decide(bytes: &[u8])
     requires few { length bytes.now < 2 ^ 32 }
     ensures decided { IsDecided bytes.now }
 {
-    let _signed = signed(bytes);
+    let _signed = signed(bytes, &mut MainPlace::new());
 }
 
 /// A law: three files mean one base at most, and have one first fault at most.

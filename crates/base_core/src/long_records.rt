@@ -4,7 +4,7 @@ ghost use Rattle.game_codec.specs.Fault.{IsRecordFault};
 ghost use Rattle.sig_index.specs.Signature.{IsSigBounded};
 ghost use Rattle.base_core.specs.Reading.{HasSig};
 
-use game_codec::RecordFault;
+use game_codec::{MainPlace, RecordFault};
 use sig_index::{Sig, signed};
 use std::alloc::Global;
 use std::marker::Model;
@@ -56,11 +56,13 @@ impl LookedAt {
     }
 }
 
-/// The last few records of at least 4,096 bytes that were looked at. A record is not kept for want of memory.
+/// The last few records of at least 4,096 bytes that were looked at. A record is not kept for want of memory. All records are read at
+/// one place.
 #[derive(Drop)]
 pub(crate) struct LongRecords {
     alloc: Global,
     kept: Vec<LookedAt>,
+    main: MainPlace,
 }
 
 impl LongRecords {
@@ -69,6 +71,7 @@ impl LongRecords {
         LongRecords {
             alloc,
             kept: Vec::new(alloc),
+            main: MainPlace::new(),
         }
     }
 
@@ -80,12 +83,12 @@ impl LongRecords {
         ensures fault { IfErr result (IsRecordFault bytes.now) }
     {
         if bytes.len() < LONG {
-            return signed(bytes);
+            return signed(bytes, &mut self.main);
         }
         if let Some(sig) = self.known(bytes) {
             return Ok(sig);
         }
-        let sig = signed(bytes)?;
+        let sig = signed(bytes, &mut self.main)?;
         self.keep(bytes, sig);
         Ok(sig)
     }

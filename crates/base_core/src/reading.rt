@@ -23,7 +23,7 @@ use crate::fault::{BaseFault, OpenError};
 use crate::long_records::LongRecords;
 use crate::part_read::PartRead;
 use base_files::Files;
-use game_codec::{RecordFault, event_date_in};
+use game_codec::{MainPlace, RecordFault, event_date_in};
 use game_tree::Date;
 use index_entry::{ENTRY_LEN, Entry};
 use sig_index::{Sig, signed};
@@ -170,7 +170,7 @@ pub fn mended_entry(entry: &Entry, bytes: &[u8]) -> Result<Entry, RecordFault>
     ensures fields { IfOk result IsEntry }
     ensures homes { IfOk result (λ kept. kept.home_count ≤ 16) }
 {
-    let sig = signed(bytes)?;
+    let sig = signed(bytes, &mut MainPlace::new())?;
     let signed = signed_by(entry, bytes, sig);
     Ok(kept_entry(entry, &signed.sig, signed.event_date))
 }

@@ -15,7 +15,7 @@ use Rattle.pos_search.specs.Matching.{matches_at}
 use Rattle.sig_index.proofs.PrefixLemmas.{stood_before}
 use Rattle.book_pages.specs.Keeping.{AreMetNoMore, HasHomes, IsBoard, IsPast, men_in, query_of}
 use Rattle.book_pages.proofs.HomeLemmas.{no_part}
-use Rattle.book_pages.proofs.MenLemmas.{men_fall}
+use Rattle.pos_search.proofs.MenLemmas.{men_fall}
 use Rattle.book_pages.proofs.PlaceLemmas.{matched, no_board}
 
 lower : (old new : ℕ) (board : Packed) → new ≤ old → IsBoard old board → IsBoard new board

@@ -1,4 +1,3 @@
-mod MenLemmas
 mod PlaceLemmas
 mod BoardLemmas
 mod MeetLemmas

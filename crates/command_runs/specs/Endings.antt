@@ -22,7 +22,8 @@ pub record Cut (Broken : Type 0) (text : List ℕ) (before after : Option (List 
   pub wrote : Halted [] text before after
   pub broken : Broken
 
--- What a command owes a state: the state after it stands and its text is written, or it was broken off by this error.
-abbrev pub Serves : {S C A E : Type 0} → Plain S C → (S → Type 0) → (S → C → E → Type 0) → S → C → Option (List ℕ) → Option (List ℕ) → Result A E → Type 0
+-- What a command owes a state: the state after it stands and its text is written, or it was broken off by this error. `Broken` is told the
+-- text, and what the sink told before and after.
+abbrev pub Serves : {S C A E : Type 0} → Plain S C → (S → Type 0) → (S → C → E → List ℕ → Option (List ℕ) → Option (List ℕ) → Type 0) → S → C → Option (List ℕ) → Option (List ℕ) → Result A E → Type 0
 Serves m Stands Broken s c before after (Ok _) = Done Stands (m.after s c) (m.text s c) before after
-Serves m Stands Broken s c before after (Err e) = Cut (Broken s c e) (m.text s c) before after
+Serves m Stands Broken s c before after (Err e) = Cut (Broken s c e (m.text s c) before after) (m.text s c) before after

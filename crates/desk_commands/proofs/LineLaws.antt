@@ -11,14 +11,14 @@ use Rattle.script_lines.specs.Clients.{Clients, ended_by, has_ended, heard, leav
 use Rattle.script_lines.specs.declared.line.Line.{Line}
 use Rattle.script_text.specs.Tasks.{Order, Task, task}
 use Rattle.script_text.specs.declared.command.Command.TheVariants.{Nothing}
-use Rattle.shell_commands.proofs.WindowLaws.{any_body, any_files}
+use Rattle.shell_commands.proofs.WindowLaws.{any_body, any_early, any_files}
 use Rattle.shell_commands.specs.Tasks.{BrokenTask, SettledTask, order_left, order_price, order_work}
 use Rattle.shell_state.proofs.CarryLaws.{carry_of}
 use Rattle.shell_state.proofs.Causing.{broken_by_output}
 use Rattle.shell_state.specs.Carrying.{Settled, StillCarry}
 use Rattle.shell_state.specs.Ends.{IsOutput}
 use Rattle.shell_state.specs.Slots.{slot_at}
-use Rattle.shell_state.specs.Stands.{Broken, WhyHalt}
+use Rattle.shell_state.specs.Stands.{Broken, Unfinished, WhyHalt}
 use Rattle.shell_state.specs.State.{State}
 use Rattle.shell_state.specs.Work.{Work}
 use Rattle.shell_state.specs.declared.halt.Halt.{Halt}
@@ -66,8 +66,8 @@ pub idle_settled : (seen : Seen) (d : Desk) (line : Line) (text : List ℕ) (tol
 idle_settled seen d line text told told' idle =
     subst (λ (order : Order). IfSome (order_left order) (λ left. Settled seen (seen_by (desk_after d (tagged_task line text)) 0) told told')) (sym idle.order) tt
 
-pub idle_broken : (d : Desk) (line : Line) (text : List ℕ) (e : Halt) → IsOutput e → BrokenLine d (tagged_task line text) e
-idle_broken d line text e output = broken_by_output (seen_by d 0) (order_work all_slots (effective d.clients line.client line.order) text) e output
+pub idle_broken : (d : Desk) (line : Line) (body : List ℕ) (e : Halt) (text : List ℕ) (told told' : Option (List ℕ)) → IsOutput e → BrokenLine d (tagged_task line body) e text told told'
+idle_broken d line body e text told told' output = broken_by_output (seen_by d 0) (order_work all_slots (effective d.clients line.client line.order) body) e output text told told'
 
 -- Its text was written, or a front part of it.
 pub idle_serves : {A : Type 0} (r : Result A Halt) (held : DeskHolding) (seen : Seen) (d : Desk) (line : Line) (body text : List ℕ) (told told' : Option (List ℕ)) → IsIdle d line → DeskStands held seen d → text ≡ desk_text d (tagged_task line body)
@@ -78,7 +78,7 @@ idle_serves (Ok x) held seen d line body text told told' idle st is written halt
 }
 idle_serves (Err e) held seen d line body text told told' idle st is written halted output = record {
   wrote = subst (λ (l : List ℕ). Halted [] l told told') is halted;
-  broken = idle_broken d line body e output;
+  broken = idle_broken d line body e (desk_text d (tagged_task line body)) told told' output;
 }
 
 pub none_text : (d : Desk) (line : Line) (body : List ℕ) → line.client ≡ None → unless_nothing (codes "no client") line.order ≡ desk_text d (tagged_task line body)
@@ -107,21 +107,24 @@ speaks_text : (d : Desk) (line : Line) (client : ℕ) (body : List ℕ) → Spea
     → lines_to d.clients client ((own_tasks d client).text (seen_by d client) (task line.order body)) ≡ desk_text d (tagged_task line body)
 speaks_text d line client body says = sym (ap (λ (o : Option ℕ). desk_text d (record { client = o; task = task line.order body })) says.says ∙ rw says.speaks refl)
 
-broken_work : (s s' : State) (work work' : Work) (e : Halt) → work.files ≡ work'.files → work.body ≡ work'.body → Broken s work e → Broken s' work' e
-broken_work s s' work work' (halt.Device stop.Read) files body broken = rw (sym body) broken
-broken_work s s' work work' (halt.Device stop.Files) files body broken = rw (sym files) broken
-broken_work s s' work work' (halt.Device stop.Write) files body broken = broken
-broken_work s s' work work' (halt.Device stop.Memory) files body broken = broken
-broken_work s s' work work' (halt.Changed game kept found) files body broken = broken
+broken_work : (s s' : State) (work work' : Work) (e : Halt) (text : List ℕ) (told told' : Option (List ℕ)) → work.files ≡ work'.files → work.body ≡ work'.body → work.early ≡ work'.early → Broken s work e text told told'
+    → Broken s' work' e text told told'
+broken_work s s' work work' (halt.Device stop.Read) text told told' files body early broken = rw (sym body) broken
+broken_work s s' work work' (halt.Device stop.Files) text told told' files body early broken =
+    (rw (sym files) broken.0, subst (λ (b : Bool). Unfinished b text told told') early broken.1)
+broken_work s s' work work' (halt.Device stop.Write) text told told' files body early broken = broken
+broken_work s s' work work' (halt.Device stop.Memory) text told told' files body early broken = broken
+broken_work s s' work work' (halt.Changed game kept found) text told told' files body early broken = broken
 
-pub speaks_broken : (d : Desk) (line : Line) (client : ℕ) (body : List ℕ) (w : Window) (e : Halt) → Speaks d line client → BrokenTask w (seen_by d client) (task line.order body) e → BrokenLine d (tagged_task line body) e
-speaks_broken d line client body w e says broken =
-    subst (λ (order : Order). Broken (seen_by d 0) (order_work all_slots order body) e) (sym (speaks_order d line client says))
-    (broken_work (seen_by d client) (seen_by d 0) (order_work w line.order body) (order_work all_slots line.order body) e (any_files w line.order body) (any_body w line.order body) broken)
+pub speaks_broken : (d : Desk) (line : Line) (client : ℕ) (body : List ℕ) (w : Window) (e : Halt) (text : List ℕ) (told told' : Option (List ℕ)) → Speaks d line client → BrokenTask w (seen_by d client) (task line.order body) e text told told'
+    → BrokenLine d (tagged_task line body) e text told told'
+speaks_broken d line client body w e text told told' says broken =
+    subst (λ (order : Order). Broken (seen_by d 0) (order_work all_slots order body) e text told told') (sym (speaks_order d line client says))
+    (broken_work (seen_by d client) (seen_by d 0) (order_work w line.order body) (order_work all_slots line.order body) e text told told' (any_files w line.order body) (any_body w line.order body) (any_early w line.order body) broken)
 
 pub speaks_serves : {A : Type 0} (r : Result A Halt) (held : DeskHolding) (seen : Seen) (d : Desk) (line : Line) (client : ℕ) (body : List ℕ) (told told' : Option (List ℕ)) → Speaks d line client → OnOk r (DeskStands held seen (desk_by d client (task line.order body)))
     → OnOk r (told' ≡ adds told (lines_to d.clients client ((own_tasks d client).text (seen_by d client) (task line.order body))))
-    → Halted [] (lines_to d.clients client ((own_tasks d client).text (seen_by d client) (task line.order body))) told told' → IfErr r (λ e. BrokenTask (window_of d.clients client) (seen_by d client) (task line.order body) e)
+    → Halted [] (lines_to d.clients client ((own_tasks d client).text (seen_by d client) (task line.order body))) told told' → IfErr r (λ e. BrokenTask (window_of d.clients client) (seen_by d client) (task line.order body) e (lines_to d.clients client ((own_tasks d client).text (seen_by d client) (task line.order body))) told told')
     → Serves doings (DeskStands held seen) BrokenLine d (tagged_task line body) told told' r
 speaks_serves (Ok x) held seen d line client body told told' says st written halted broken = record {
   stands = subst (λ (y : Desk). DeskStands held seen y) (sym (speaks_done d line client (task line.order body) says)) st;
@@ -129,7 +132,8 @@ speaks_serves (Ok x) held seen d line client body told told' says st written hal
 }
 speaks_serves (Err e) held seen d line client body told told' says st written halted broken = record {
   wrote = subst (λ (l : List ℕ). Halted [] l told told') (speaks_text d line client body says) halted;
-  broken = speaks_broken d line client body (window_of d.clients client) e says broken;
+  broken = speaks_broken d line client body (window_of d.clients client) e (desk_text d (tagged_task line body)) told told' says
+      (subst (λ (l : List ℕ). BrokenTask (window_of d.clients client) (seen_by d client) (task line.order body) e l told told') (speaks_text d line client body says) broken);
 }
 
 pub speaks_carries : (seen : Seen) (d : Desk) (line : Line) (client : ℕ) → Speaks d line client → StillCarry seen (seen_by d client) (order_left line.order) → StillCarry seen (seen_by d 0) (line_left d line)

@@ -133,12 +133,12 @@ views_behind rows told w d c t kind own first second before after split b done =
 }
 
 -- It is broken off in the same ways in any state, and the same files carry what is shared.
-pub broken_any : (s s' : State) (work : Work) (e : Halt) → Broken s work e → Broken s' work e
-broken_any s s' work (halt.Device stop.Read) broken = broken
-broken_any s s' work (halt.Device stop.Files) broken = broken
-broken_any s s' work (halt.Device stop.Write) broken = broken
-broken_any s s' work (halt.Device stop.Memory) broken = broken
-broken_any s s' work (halt.Changed game kept found) broken = broken
+pub broken_any : (s s' : State) (work : Work) (e : Halt) (text : List ℕ) (told told' : Option (List ℕ)) → Broken s work e text told told' → Broken s' work e text told told'
+broken_any s s' work (halt.Device stop.Read) text told told' broken = broken
+broken_any s s' work (halt.Device stop.Files) text told told' broken = broken
+broken_any s s' work (halt.Device stop.Write) text told told' broken = broken
+broken_any s s' work (halt.Device stop.Memory) text told told' broken = broken
+broken_any s s' work (halt.Changed game kept found) text told told' broken = broken
 
 settled_by : (left : Option (Base → Base)) (seen : Seen) (s s' : State) (told told' : Option (List ℕ)) → s.shared ≡ s'.shared
     → IfSome left (λ _. Settled seen s told told') → IfSome left (λ _. Settled seen s' told told')

@@ -26,7 +26,7 @@ use Rattle.command_runs.specs.Rendered.{Opening, Rendered, no_text, said}
 use Rattle.command_runs.specs.Waiting.{Waiting}
 use Rattle.view_commands.specs.declared.window.Window.{Window}
 use Rattle.desk_commands.proofs.KindLaws.{carry_behind}
-use Rattle.desk_commands.proofs.TagLaws.{tag_causes, tag_unsaid}
+use Rattle.desk_commands.proofs.TagLaws.{tag_broken, tag_causes, tag_unsaid}
 use Rattle.desk_commands.specs.Desk.{lines_to}
 use Rattle.desk_commands.specs.Lending.{client_tag}
 use Rattle.desk_commands.specs.Doing.{ended}
@@ -47,7 +47,7 @@ pub serving_halted : {A : Type 0} (r : Result A Halt) (w : Window) (m : Holding)
 serving_halted (Ok x) w m seen s t told told' did = halted_unsure ((tasks w).text s t) ((tasks w).text s t) told told' (halted_all ((tasks w).text s t) told told' did.written)
 serving_halted (Err e) w m seen s t told told' cut = cut.wrote
 
-pub serving_broken : {A : Type 0} (r : Result A Halt) (w : Window) (m : Holding) (seen : Seen) (s : State) (t : Task) (told told' : Option (List ℕ)) → Serving w m seen s t told told' r → IfErr r (λ e. BrokenTask w s t e)
+pub serving_broken : {A : Type 0} (r : Result A Halt) (w : Window) (m : Holding) (seen : Seen) (s : State) (t : Task) (told told' : Option (List ℕ)) → Serving w m seen s t told told' r → IfErr r (λ e. BrokenTask w s t e ((tasks w).text s t) told told')
 serving_broken (Ok x) w m seen s t told told' did = tt
 serving_broken (Err e) w m seen s t told told' cut = cut.broken
 
@@ -106,10 +106,12 @@ ended_both (Err e) flushed P Q R f p q = tt
 ended_both (Ok x) (Err stop) P Q R f p q = tt
 ended_both (Ok x) (Ok y) P Q R f p q = f p q
 
-pub ended_broken : {A : Type 0} (served : Result A Halt) (flushed : Result A Stop) (w : Window) (s : State) (t : Task) (a b : ℕ) → IfErr served (λ e. BrokenTask w s t e) → Causes Why flushed (counts 0 0 a) (counts 0 0 b) → IfErr (ended served flushed) (λ e. BrokenTask w s t e)
-ended_broken (Err e) flushed w s t a b broken causes = broken
-ended_broken (Ok x) (Err stop) w s t a b broken causes = broken_by_output s (task_work w t) (halt.Device stop) (output_of stop a b causes.why)
-ended_broken (Ok x) (Ok y) w s t a b broken causes = tt
+pub ended_broken : {A : Type 0} (served : Result A Halt) (flushed : Result A Stop) (w : Window) (s : State) (t : Task) (o : Opening) (told told' : Option (List ℕ)) (faults a b : ℕ) (page : Waiting) (text : List ℕ) → Rendered o told faults page
+    → Halted [] page.bytes told told' → IfErr served (λ e. BrokenTask w s t e text (no_text o.told) (said o told page)) → Causes Why flushed (counts 0 0 a) (counts 0 0 b)
+    → IfErr (ended served flushed) (λ e. BrokenTask w s t e (tagged o.tag text) o.told told')
+ended_broken (Err e) flushed w s t o told told' faults a b page text r halted broken causes = tag_broken s (task_work w t) e o told told' faults page text r halted broken
+ended_broken (Ok x) (Err stop) w s t o told told' faults a b page text r halted broken causes = broken_by_output s (task_work w t) (halt.Device stop) (output_of stop a b causes.why) (tagged o.tag text) o.told told'
+ended_broken (Ok x) (Ok y) w s t o told told' faults a b page text r halted broken causes = tt
 
 pub ended_unsaid : {A : Type 0} (served : Result A Halt) (flushed : Result A Stop) (a b : ℕ) (first first' told told' : Option (List ℕ)) → Causes Why flushed (counts 0 0 a) (counts 0 0 b) → (first' ≡ first → told' ≡ told)
     → IfErr served (λ (e : Halt). Unsaid e first first') → IfErr (ended served flushed) (λ (e : Halt). Unsaid e told told')
@@ -138,9 +140,9 @@ to_plain clients client P text tags p = subst P (ap (λ (b : Bool). cond b (tagg
 
 -- ---- memory that runs out behind a command
 
-pub memory_broken : {A : Type 0} (r : Result A Halt) (w : Window) (s : State) (t : Task) → IfErr r (λ e. e ≡ halt.Device stop.Memory) → IfErr r (λ e. BrokenTask w s t e)
-memory_broken (Ok x) w s t is = tt
-memory_broken (Err e) w s t is = subst (λ (e : Halt). BrokenTask w s t e) (sym is) tt
+pub memory_broken : {A : Type 0} (r : Result A Halt) (w : Window) (s : State) (t : Task) (text : List ℕ) (told told' : Option (List ℕ)) → IfErr r (λ e. e ≡ halt.Device stop.Memory) → IfErr r (λ e. BrokenTask w s t e text told told')
+memory_broken (Ok x) w s t text told told' is = tt
+memory_broken (Err e) w s t text told told' is = subst (λ (e : Halt). BrokenTask w s t e text told told') (sym is) tt
 
 pub memory_causes : {A B : Type 0} (r : Result A Halt) (x : B) (f f' b b' m n : ℕ) → Causes {A = B} {E = Halt} WhyHalt (Ok x) (counts f b m) (counts f' b' n) → IfErr r (λ e. e ≡ halt.Device stop.Memory) → Causes WhyHalt r (counts f b m) (counts f' b' n)
 memory_causes (Ok y) x f f' b b' m n causes is = record { none_fell = causes.none_fell; why = tt }

@@ -138,9 +138,11 @@ pub his_text : (clients : Clients) (d : Desk) (place : ℕ) (order : Order) (bod
 his_text clients d place order body kind after own P b same p =
     subst P (ap (λ (l : List ℕ). lines_to clients place l) b.text ∙ ap (λ (c : Clients). lines_to c place ((tasks (window_of c place)).text (seen_by d place) (task order body))) same) p
 
-pub his_broken : {A : Type 0} (r : Result A Halt) (clients : Clients) (d : Desk) (place : ℕ) (t : Task) (s : State) → clients ≡ d.clients → IfErr r (λ e. BrokenTask (window_of clients place) s t e) → IfErr r (λ e. BrokenTask (window_of d.clients place) (seen_by d place) t e)
-his_broken (Ok x) clients d place t s same broken = tt
-his_broken (Err e) clients d place t s same broken = subst (λ (c : Clients). BrokenTask (window_of c place) (seen_by d place) t e) same (broken_any s (seen_by d place) (task_work (window_of clients place) t) e broken)
+pub his_broken : {A : Type 0} (r : Result A Halt) (clients : Clients) (d : Desk) (place : ℕ) (t : Task) (s : State) (text : List ℕ) (told told' : Option (List ℕ)) → clients ≡ d.clients
+    → IfErr r (λ e. BrokenTask (window_of clients place) s t e text told told') → IfErr r (λ e. BrokenTask (window_of d.clients place) (seen_by d place) t e text told told')
+his_broken (Ok x) clients d place t s text told told' same broken = tt
+his_broken (Err e) clients d place t s text told told' same broken =
+    subst (λ (c : Clients). BrokenTask (window_of c place) (seen_by d place) t e text told told') same (broken_any s (seen_by d place) (task_work (window_of clients place) t) e text told told' broken)
 
 pub his_views : {A E B : Type 0} (r : Result A E) (rows : B → List Row) (told : B → Told) (held : DeskHolding) (seen : Seen) (d : Desk) (kind : Kind) (place : ℕ) (seats after : List SeatStruct) (own stood : SeatStruct) (m : Holding) (left : List SeatStruct) (clients : Clients) (order : Order) (body : List ℕ) (before later : List (Option B))
     → Sits held kind place seats after own stood m left → DeskStands held seen d → order_kind order ≡ kind → clients ≡ d.clients → OnOk r (ViewsDone rows told (window_of clients place) (Lent d kind place after own) (task order body) before later)

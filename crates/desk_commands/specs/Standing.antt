@@ -60,8 +60,9 @@ abbrev pub line_left : Desk → Line → Option (Base → Base)
 line_left desk line = (order_work all_slots (effective desk.clients line.client line.order) []).left
 
 -- What is known of a line that was broken off.
-abbrev pub BrokenLine : Desk → Tagged → Halt → Type 0
-BrokenLine desk t e = Broken (seen_by desk 0) (order_work all_slots (effective desk.clients t.client t.task.order) t.task.body) e
+abbrev pub BrokenLine : Desk → Tagged → Halt → List ℕ → Option (List ℕ) → Option (List ℕ) → Type 0
+BrokenLine desk t e text told told' =
+    Broken (seen_by desk 0) (order_work all_slots (effective desk.clients t.client t.task.order) t.task.body) e text told told'
 
 -- What is known of the files if one was broken off that leaves a base in their place: nothing of its text was written, or they carry what
 -- the desk behind it says.

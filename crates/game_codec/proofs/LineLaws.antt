@@ -47,7 +47,7 @@ takes-calm n p bytes Open later h = h
 takes-calm n p bytes Close later h = h
 takes-calm n p bytes End later h = h
 
-fault-calm : (n : Numbered) (p : Place) (bytes : List ℕ) (w : RecordWhat) → FaultAt (with_before n p) bytes w → FaultAt p bytes w
+pub fault-calm : (n : Numbered) (p : Place) (bytes : List ℕ) (w : RecordWhat) → FaultAt (with_before n p) bytes w → FaultAt p bytes w
 fault-calm n p bytes what.Short h = h
 fault-calm n p [] what.Mark h = h
 fault-calm n p (byte ∷ later) what.Mark h = h
@@ -60,13 +60,13 @@ fault-calm n p bytes what.TagValue h = h
 fault-calm n p bytes what.Fen h = h
 fault-calm n p bytes what.Extra h = h
 
-no_nag : (bytes later : List ℕ) → IsCalm bytes → bytes ≡ 11 ∷ later → ⊥
+pub no_nag : (bytes later : List ℕ) → IsCalm bytes → bytes ≡ 11 ∷ later → ⊥
 no_nag bytes later calm is = subst IsCalm is calm (inl refl)
 
-no_comment : (bytes later : List ℕ) → IsCalm bytes → bytes ≡ 12 ∷ later → ⊥
+pub no_comment : (bytes later : List ℕ) → IsCalm bytes → bytes ≡ 12 ∷ later → ⊥
 no_comment bytes later calm is = subst IsCalm is calm (inr (inl refl))
 
-no_variation : (bytes later : List ℕ) → IsCalm bytes → bytes ≡ 13 ∷ later → ⊥
+pub no_variation : (bytes later : List ℕ) → IsCalm bytes → bytes ≡ 13 ∷ later → ⊥
 no_variation bytes later calm is = subst IsCalm is calm (inr (inr refl))
 
 spells-calm : (n : Numbered) (p : Place) (s : Movetext) (bytes behind : List ℕ) → IsCalm bytes → SpellsMoves (with_before n p) s bytes behind → SpellsMoves p s bytes behind

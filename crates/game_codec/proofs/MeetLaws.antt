@@ -1,319 +1,322 @@
--- What each byte does to the open lines.
-use Rattle.std.proofs.Common.{◌≡◌, ℕ, ◌+◌, ◌<◌, ◌≤◌, ◌==◌, true, false, List, [], ◌∷◌, ◌++◌, Some, None, Ok, Err, length, drop, refl, sym, ap, subst, ◌∙◌, length-drop, arith}
+-- What each item does to the open lines.
+use Rattle.std.proofs.Common.{◌≡◌, ℕ, suc, ◌+◌, ◌<◌, ◌≤◌, ◌==◌, List, [], ◌∷◌, ◌++◌, Some, None, Ok, Err, length, drop, refl, sym, ap, subst, ◌∙◌, add-one, inl, inr, length-drop, arith}
 use Rattle.std.specs.Prelude.{reverse}
-use Rattle.std.proofs.lemmas.List.{length-reverse, nil_from_length, reverse-append}
+use Rattle.std.proofs.lemmas.List.{reverse-append}
 use Rattle.cell_core.specs.declared.step.Move.{Move}
-use Rattle.chess_laws.proofs.Stepping.{Step-stepped}
-use Rattle.move_codec.specs.declared.fault.MoveFault.{MoveFault}
-use Rattle.move_codec.specs.Packed.{Decodes, is_mark}
-use Rattle.move_codec.proofs.RoundTrip.{Decodes-one}
-use Rattle.move_codec.proofs.Decoding.{same_ok}
-use Rattle.game_codec.specs.Place.{IsMoveDue}
-use Rattle.game_codec.specs.Visits.{Visit, visit_from}
-use Rattle.game_codec.specs.Open.{AllFit, AreLeft, HasGone, HasLeft, HasMet, IsBounded, IsPlayed, all_lines, varied, visit_now}
-use Rattle.game_codec.specs.declared.breach.Breach.{Breach}
-use Rattle.game_codec.specs.declared.all_walk.OpenLine.{OpenLine}
+use Rattle.move_codec.specs.Numbers.{Numbered}
+use Rattle.game_codec.specs.Blank.{kept_in}
+use Rattle.game_codec.specs.Nests.{IsCalm, IsKept, IsPast, token_of, with_before}
+use Rattle.game_codec.specs.Open.{AreLeft, AreSound, Follows, HasGone, HasLeft, HasMet, IsKeptIn, IsSound, Opened, all_lines, nest_at, opened, opened_after, opened_out, varied, visit_now, visit_of, visits_in, with_before_in}
+use Rattle.game_codec.specs.Place.{Place, FaultAt, Takes, after_move}
+use Rattle.game_codec.specs.Scanning.{IsInner, Scans, Stop, nest_after}
+use Rattle.game_codec.specs.Token.{Token, Play, Nag, Comment, Open, Close, End}
+use Rattle.game_codec.specs.Visits.{Visit}
 use Rattle.game_codec.specs.declared.all_walk.Lines.{Lines}
-use Rattle.game_codec.specs.declared.all_walk.Met.TheVariants as met
-use Rattle.game_codec.proofs.OpenLaws.{ended, closed, nagged, noted, opened, played, meets, meets_none}
+use Rattle.game_codec.specs.declared.all_walk.OpenLine.{OpenLine}
+use Rattle.game_codec.specs.declared.breach.Breach.{Breach}
+use Rattle.game_codec.specs.declared.reading.Item.TheVariants as item
+use Rattle.game_codec.specs.declared.token.Token.{Token as Read}
+use Rattle.game_codec.specs.declared.token.Token.TheVariants as read
+use Rattle.game_codec.proofs.ItemLaws.{Takes-one}
+use Rattle.game_codec.proofs.LineLaws.{fault-calm, no_comment, no_nag, no_variation}
 
--- The bytes by their first
+abbrev at : OpenLine → List OpenLine → Opened
+at o outer = record { line = o; outer = outer }
 
-module _ (o : OpenLine) (lines : List OpenLine) (later : List ℕ) (left : List Visit) where
-  nag_on : AreLeft (o ∷ lines) (11 ∷ later) left → AreLeft (o ∷ lines) (drop 1 later) left
-  nag_on a =
-      elim (meets o lines 11 later left a) [
-        | ended e none empty ↦ absurd (omega (arith, e))
-        | closed e some on ↦ absurd (omega (arith, e))
-        | nagged e n rest same on ↦ subst (λ (l : List ℕ). AreLeft (o ∷ lines) (drop 1 l) left) (sym same) on
-        | noted e on ↦ absurd (omega (arith, e))
-        | opened e room on ↦ absurd (omega (arith, e))
-        | played plain m used more decodes first on ↦ absurd (cc)
-      ]
+-- The position before the last move counts where a variation begins alone, and none begins where the bytes are calm
+module _ (n : Numbered) where
+  scans-calm : (o : OpenLine) (outer : List OpenLine) (bytes : List ℕ) (ts : List Token) (stop : Stop) → o.place.depth ≡ length outer → IsCalm bytes
+      → Scans (nest_at (with_before_in n (at o outer))) bytes ts stop → Scans (nest_at (at o outer)) bytes ts stop
+  scans-calm o outer bytes [] (Ok rest) deep calm h = h
+  scans-calm o outer bytes [] (Err fault) deep calm h = (h.0, fault-calm n o.place bytes fault.1 h.1)
+  scans-calm o outer bytes (Play m ∷ ts) stop deep calm h = h
+  scans-calm o outer bytes (Nag k ∷ ts) stop deep calm h = absurd (no_nag bytes (k ∷ h.1.0) calm h.1.1.1)
+  scans-calm o outer bytes (Comment ∷ ts) stop deep calm h = absurd (no_comment bytes h.1.0 calm h.1.1.1)
+  scans-calm o outer bytes (Open ∷ ts) stop deep calm h = absurd (no_variation bytes h.1.0 calm h.1.1.2)
+  scans-calm o [] bytes (Close ∷ ts) stop deep calm h = absurd (omega (arith, deep, h.1.1.0))
+  scans-calm o (q ∷ outer) bytes (Close ∷ ts) stop deep calm h = h
+  scans-calm o outer bytes (End ∷ ts) stop deep calm h = absurd h.0
 
-  comment_on : AreLeft (o ∷ lines) (12 ∷ later) left → AreLeft (o ∷ lines) later left
-  comment_on a =
-      elim (meets o lines 12 later left a) [
-        | ended e none empty ↦ absurd (omega (arith, e))
-        | closed e some on ↦ absurd (omega (arith, e))
-        | nagged e n rest same on ↦ absurd (omega (arith, e))
-        | noted e on ↦ on
-        | opened e room on ↦ absurd (omega (arith, e))
-        | played plain m used more decodes first on ↦ absurd (cc)
-      ]
+  visits-calm : (o : OpenLine) (outer : List OpenLine) (bytes : List ℕ) (ts : List Token) (stop : Stop) → o.place.depth ≡ length outer → IsCalm bytes
+      → Scans (nest_at (at o outer)) bytes ts stop → visits_in (with_before_in n (at o outer)) ts ≡ visits_in (at o outer) ts
+  visits-calm o outer bytes [] stop deep calm h = refl
+  visits-calm o outer bytes (Play m ∷ ts) stop deep calm h = refl
+  visits-calm o outer bytes (Nag k ∷ ts) stop deep calm h = absurd (no_nag bytes (k ∷ h.1.0) calm h.1.1.1)
+  visits-calm o outer bytes (Comment ∷ ts) stop deep calm h = absurd (no_comment bytes h.1.0 calm h.1.1.1)
+  visits-calm o outer bytes (Open ∷ ts) stop deep calm h = absurd (no_variation bytes h.1.0 calm h.1.1.2)
+  visits-calm o [] bytes (Close ∷ ts) stop deep calm h = absurd (omega (arith, deep, h.1.1.0))
+  visits-calm o (q ∷ outer) bytes (Close ∷ ts) stop deep calm h = refl
+  visits-calm o outer bytes (End ∷ ts) stop deep calm h = absurd h.0
 
-  open_on : AreLeft (o ∷ lines) (13 ∷ later) left → (length lines < 200) × AreLeft (varied o ∷ o ∷ lines) later left
-  open_on a =
-      elim (meets o lines 13 later left a) [
-        | ended e none empty ↦ absurd (omega (arith, e))
-        | closed e some on ↦ absurd (omega (arith, e))
-        | nagged e n rest same on ↦ absurd (omega (arith, e))
-        | noted e on ↦ absurd (omega (arith, e))
-        | opened e room on ↦ (room, on)
-        | played plain m used more decodes first on ↦ absurd (cc)
-      ]
+kept-back : (a code : Opened) (bytes : List ℕ) → IsKeptIn a code bytes → IsKeptIn code a bytes
+kept-back a code bytes (inl same) = inl (sym same)
+kept-back a code bytes (inr (same, calm)) = inr (ap (with_before_in a.line.place.before) (sym same), calm)
 
-  close_on : AreLeft (o ∷ lines) (14 ∷ later) left → (0 < length lines) × AreLeft lines later left
-  close_on a =
-      elim (meets o lines 14 later left a) [
-        | ended e none empty ↦ absurd (omega (arith, e))
-        | closed e some on ↦ (some, on)
-        | nagged e n rest same on ↦ absurd (omega (arith, e))
-        | noted e on ↦ absurd (omega (arith, e))
-        | opened e room on ↦ absurd (omega (arith, e))
-        | played plain m used more decodes first on ↦ absurd (cc)
-      ]
+scans-kept : (a code : Opened) (bytes : List ℕ) (ts : List Token) (stop : Stop) → a.line.place.depth ≡ length a.outer → IsKeptIn a code bytes
+    → Scans (nest_at code) bytes ts stop → Scans (nest_at a) bytes ts stop
+scans-kept a code bytes ts stop deep (inl same) h = subst (λ (x : Opened). Scans (nest_at x) bytes ts stop) same h
+scans-kept a code bytes ts stop deep (inr (same, calm)) h =
+    scans-calm code.line.place.before a.line a.outer bytes ts stop deep calm (subst (λ (x : Opened). Scans (nest_at x) bytes ts stop) same h)
 
-  end_on : AreLeft (o ∷ lines) (15 ∷ later) left → (length lines ≡ 0) × (left ≡ [])
-  end_on a =
-      elim (meets o lines 15 later left a) [
-        | ended e none empty ↦ (ap (λ (l : List OpenLine). length l) none, empty)
-        | closed e some on ↦ absurd (omega (arith, e))
-        | nagged e n rest same on ↦ absurd (omega (arith, e))
-        | noted e on ↦ absurd (omega (arith, e))
-        | opened e room on ↦ absurd (omega (arith, e))
-        | played plain m used more decodes first on ↦ absurd (cc)
-      ]
+visits-kept : (a code : Opened) (bytes : List ℕ) (ts : List Token) (stop : Stop) → a.line.place.depth ≡ length a.outer → IsKeptIn a code bytes → Scans (nest_at a) bytes ts stop
+    → visits_in a ts ≡ visits_in code ts
+visits-kept a code bytes ts stop deep (inl same) h = ap (λ (x : Opened). visits_in x ts) (sym same)
+visits-kept a code bytes ts stop deep (inr (same, calm)) h =
+    sym (ap (λ (x : Opened). visits_in x ts) same ∙ visits-calm code.line.place.before a.line a.outer bytes ts stop deep calm h)
 
-nag_cut : (o : OpenLine) (lines : List OpenLine) (left : List Visit) → AreLeft (o ∷ lines) (11 ∷ []) left → ⊥
-nag_cut o lines left a =
-    elim (meets o lines 11 [] left a) [
-      | ended e none empty ↦ absurd (omega (arith, e))
-      | closed e some on ↦ absurd (omega (arith, e))
-      | nagged e n rest same on ↦ absurd (cc)
-      | noted e on ↦ absurd (omega (arith, e))
-      | opened e room on ↦ absurd (omega (arith, e))
-      | played plain m used more decodes first on ↦ absurd (cc)
-    ]
+sound-kept : (more : ℕ) (a code : Opened) (bytes : List ℕ) → IsKeptIn a code bytes → AreSound more (all_lines a) → AreSound more (all_lines code)
+sound-kept more a code bytes (inl same) sound = subst (λ (x : Opened). AreSound more (all_lines x)) (sym same) sound
+sound-kept more a code bytes (inr (same, calm)) sound = subst (λ (x : Opened). AreSound more (all_lines x)) (sym same) sound
 
--- The move that the bytes begin with is the first that is left.
-record IsMoved (o : OpenLine) (lines : List OpenLine) (bytes : List ℕ) (left : List Visit) : Type 0 where
-  pub m : Move
-  pub used : ℕ
-  pub more : List Visit
-  pub decodes : Decodes o.here bytes (Ok (m, used))
-  pub first : left ≡ visit_from (length lines == 0) o.here.position o.ply m ∷ more
-  pub on : (next : OpenLine) → IsPlayed o m (drop used bytes) next → AreLeft (next ∷ lines) (drop used bytes) more
+-- One item of the open lines
 
-no_mark : (byte n : ℕ) → is_mark byte ≡ false → is_mark n ≡ true → byte ≡ n → ⊥
-no_mark byte n plain mark is = absurd (let same : is_mark byte ≡ is_mark n = ap is_mark is in cc)
+sound-less : (x y : ℕ) (lines : List OpenLine) → y ≤ x → AreSound x lines → AreSound y lines
+sound-less x y [] less sound = tt
+sound-less x y (o ∷ lines) less sound = (sound.0, (omega (arith, sound.1.0, less), sound-less x y lines less sound.1.1))
 
-move_by : (o : OpenLine) (lines : List OpenLine) (byte : ℕ) (later : List ℕ) (left : List Visit) → is_mark byte ≡ false
-    → AreLeft (o ∷ lines) (byte ∷ later) left → IsMoved o lines (byte ∷ later) left
-move_by o lines byte later left plain a =
-    elim (meets o lines byte later left a) [
-      | ended e none empty ↦ absurd (no_mark byte 15 plain refl e)
-      | closed e some on ↦ absurd (no_mark byte 14 plain refl e)
-      | nagged e n rest same on ↦ absurd (no_mark byte 11 plain refl e)
-      | noted e on ↦ absurd (no_mark byte 12 plain refl e)
-      | opened e room on ↦ absurd (no_mark byte 13 plain refl e)
-      | played p m used more decodes first on ↦ record { m = m; used = used; more = more; decodes = decodes; first = first; on = on }
-    ]
+sound-after : (o : OpenLine) (outer : List OpenLine) (t : Token) (bytes later : List ℕ) (x y : ℕ) → y < x → Takes o.place bytes t later → AreSound x (o ∷ outer)
+    → AreSound y (all_lines (opened_after (at o outer) t))
+sound-after o outer (Play m) bytes later x y less takes sound = (sound.0, (omega (arith, sound.1.0, less), sound-less x y outer (omega (arith, less)) sound.1.1))
+sound-after o outer (Nag n) bytes later x y less takes sound = sound-less x y (o ∷ outer) (omega (arith, less)) sound
+sound-after o outer Comment bytes later x y less takes sound = (sound.0, (omega (arith, sound.1.0, less), sound-less x y outer (omega (arith, less)) sound.1.1))
+sound-after o outer Open bytes later x y less takes sound =
+    (omega (arith, sound.0), (omega (arith, sound.1.0, less), sound-less x y (o ∷ outer) (omega (arith, less)) sound))
+sound-after o [] Close bytes later x y less takes sound = absurd (omega (arith, sound.0, takes.0))
+sound-after o (q ∷ outer) Close bytes later x y less takes sound = sound-less x y (q ∷ outer) (omega (arith, less)) sound.1.1
+sound-after o outer End bytes later x y less takes sound = sound-less x y (o ∷ outer) (omega (arith, less)) sound
 
-move_on : (o : OpenLine) (lines : List OpenLine) (bytes : List ℕ) (left : List Visit) → IsMoveDue bytes → AreLeft (o ∷ lines) bytes left → IsMoved o lines bytes left
-move_on o lines bytes left due a =
-    subst (λ (b : List ℕ). IsMoved o lines b left) (sym due.2)
-    (move_by o lines due.0 due.1 left due.3 (subst (λ (b : List ℕ). AreLeft (o ∷ lines) b left) due.2 a))
+nest-after : (o : OpenLine) (outer : List OpenLine) (t : Token) → nest_after (nest_at (at o outer)) t ≡ nest_at (opened_after (at o outer) t)
+nest-after o outer (Play m) = refl
+nest-after o outer (Nag n) = refl
+nest-after o outer Comment = refl
+nest-after o outer Open = refl
+nest-after o [] Close = refl
+nest-after o (q ∷ outer) Close = refl
+nest-after o outer End = refl
 
--- What going over one item does
+module _ (a b : Opened) (bytes later : List ℕ) (t : Token) (inner : IsInner t) (takes : Takes a.line.place bytes t later) (kept : IsKeptIn (opened_after a t) b later)
+    (less : length later < length bytes) (sound : AreSound (length bytes) (all_lines a)) where
+  sound-here : AreSound (length later) (all_lines (opened_after a t))
+  sound-here = sound-after a.line a.outer t bytes later (length bytes) (length later) less takes sound
 
-pub fit_less : (a b : ℕ) (lines : List OpenLine) → b ≤ a → AllFit a lines → AllFit b lines
-fit_less a b [] less fit = tt
-fit_less a b (o ∷ lines) less fit = (omega (arith, less, fit.0), fit_less a b lines less fit.1)
+  sound-on : AreSound (length later) (all_lines b)
+  sound-on = sound-kept (length later) (opened_after a t) b later kept sound-here
 
-module _ (old new : Lines) where
-  faulty : (e : Breach) (bytes : List ℕ) → old.ahead.now ≡ bytes → length new.ahead.now ≤ length old.ahead.now → IsBounded new
-      → ((left : List Visit) → AreLeft (all_lines old) bytes left → ⊥) → HasMet old (Err e) new
-  faulty e bytes front within bounded never = record {
-    within = within;
-    bounded = bounded;
-    is_met = tt;
-    fewer = tt;
-    fault = λ left has. never left (subst (λ (b : List ℕ). AreLeft (all_lines old) b left) front has);
+  scans-back : (ts : List Token) (stop : Stop) → Scans (nest_at b) later ts stop → Scans (nest_at a) bytes (t ∷ ts) stop
+  scans-back ts stop h =
+      let there = scans-kept (opened_after a t) b later ts stop sound-here.0 kept h in
+      (inner, (later, takes, subst (λ n. Scans n later ts stop) (sym (nest-after a.line a.outer t)) there))
+
+  left-by : (ts : List Token) (behind : List ℕ) (left : List Visit) → Scans (nest_at a) bytes ts (Ok behind) → left ≡ visits_in a ts
+      → (more : List Visit) × ((left ≡ visit_of a t ++ more) × AreLeft b later more)
+  left-by [] behind left h is = absurd (subst IsInner (Takes-one a.line.place bytes t End later behind takes h).0 inner)
+  left-by (u ∷ us) behind left h is =
+      let same = Takes-one a.line.place bytes u t h.1.0 later h.1.1 takes in
+      let moved : Scans (nest_after (nest_at a) t) later us (Ok behind) = rw (← same.0, ← same.1) h.1.2 in
+      let there : Scans (nest_at (opened_after a t)) later us (Ok behind) = subst (λ n. Scans n later us (Ok behind)) (nest-after a.line a.outer t) moved in
+      let here : left ≡ visit_of a t ++ visits_in (opened_after a t) us = is ∙ ap (λ (x : Token). visit_of a x ++ visits_in (opened_after a x) us) same.0 in (
+        visits_in b us,
+        (
+          here ∙ ap (λ (v : List Visit). visit_of a t ++ v) (visits-kept (opened_after a t) b later us (Ok behind) sound-here.0 kept there),
+          record {
+            tokens = us;
+            behind = behind;
+            scans = scans-kept b (opened_after a t) later us (Ok behind) sound-on.0 (kept-back (opened_after a t) b later kept) there;
+            left_are = refl;
+          },
+        ),
+      )
+
+  left-on : (left : List Visit) → AreLeft a bytes left → (more : List Visit) × ((left ≡ visit_of a t ++ more) × AreLeft b later more)
+  left-on left has = left-by has.tokens has.behind left has.scans has.left_are
+
+-- The same as the code goes
+
+module _ (old new : Lines) (sound : IsSound old) (t : Token) (inner : IsInner t) (takes : Takes old.line.place old.ahead.now t new.ahead.now)
+    (kept : IsKeptIn (opened_after (opened old) t) (opened new) new.ahead.now) (less : length new.ahead.now < length old.ahead.now) where
+  passed : Follows old new
+  passed = record {
+    within = omega (arith, less);
+    sound = sound-on (opened old) (opened new) old.ahead.now new.ahead.now t inner takes kept less sound;
+    on = λ ts stop h. (t ∷ ts, scans-back (opened old) (opened new) old.ahead.now new.ahead.now t inner takes kept less sound ts stop h);
   }
 
-  passing : (bytes later : List ℕ) (lines : List OpenLine) → old.ahead.now ≡ bytes → new.ahead.now ≡ later → all_lines new ≡ lines → length later < length bytes
-      → AllFit (length later) lines → ((left : List Visit) → AreLeft (all_lines old) bytes left → AreLeft lines later left) → HasMet old (Ok met.Passed) new
-  passing bytes later lines front ahead now less fit on =
-      let from = ap (λ (b : List ℕ). length b) front in
-      let to = ap (λ (b : List ℕ). length b) ahead in
-      record {
-        within = omega (arith, from, to, less);
-        bounded = subst (λ (l : List OpenLine). AllFit (length new.ahead.now) l) (sym now) (subst (λ (b : List ℕ). AllFit (length b) lines) (sym ahead) fit);
-        is_met = λ left has.
-            subst (λ (l : List OpenLine). AreLeft l new.ahead.now left) (sym now)
-            (subst (λ (b : List ℕ). AreLeft lines b left) (sym ahead) (on left (subst (λ (b : List ℕ). AreLeft (all_lines old) b left) front has)));
-        fewer = omega (arith, from, to, less);
-        fault = tt;
-      }
+  leaving : (left : List Visit) → HasLeft old left → (more : List Visit) × ((left ≡ visit_of (opened old) t ++ more) × HasLeft new more)
+  leaving left has = left-on (opened old) (opened new) old.ahead.now new.ahead.now t inner takes kept less sound left has
 
-  same_fit : (later : List ℕ) → IsBounded old → length later ≤ length old.ahead.now → AllFit (length later) (all_lines old)
-  same_fit later bounded less = fit_less (length old.ahead.now) (length later) (all_lines old) less bounded
-
-  pub pass_met : (behind : List ℕ) → old.ahead.now ≡ 12 ∷ behind → new.ahead.now ≡ behind → all_lines new ≡ all_lines old → IsBounded old
-      → HasMet old (Ok met.Passed) new
-  pass_met behind front ahead same bounded =
-      let size = ap (λ (b : List ℕ). length b) front in
-      passing (12 ∷ behind) behind (all_lines old) front ahead same (omega arith) (same_fit behind bounded (omega (arith, size)))
-      (λ left a. comment_on old.line (reverse old.outer.items) behind left a)
-
-  pub nag_met : (behind : List ℕ) → old.ahead.now ≡ 11 ∷ behind → new.ahead.now ≡ drop 1 behind → all_lines new ≡ all_lines old → IsBounded old
-      → HasMet old (Ok met.Passed) new
-  nag_met behind front ahead same bounded =
-      let size = ap (λ (b : List ℕ). length b) front in
-      let fewer = length-drop 1 behind in
-      passing (11 ∷ behind) (drop 1 behind) (all_lines old) front ahead same (omega (arith, fewer)) (same_fit (drop 1 behind) bounded (omega (arith, size, fewer)))
-      (λ left a. nag_on old.line (reverse old.outer.items) behind left a)
-
-  pub nag_faulty : (e : Breach) (behind : List ℕ) → old.ahead.now ≡ 11 ∷ behind → length behind ≡ 0 → new.ahead.now ≡ old.ahead.now → IsBounded new → HasMet old (Err e) new
-  nag_faulty e behind front none ahead bounded =
-      faulty e (11 ∷ []) (front ∙ ap (λ (b : List ℕ). 11 ∷ b) (nil_from_length behind none)) (omega (arith, ap (λ (b : List ℕ). length b) ahead)) bounded
-      (λ left a. nag_cut old.line (reverse old.outer.items) left a)
-
-  pub cut_faulty : (e : Breach) → length old.ahead.now ≡ 0 → new.ahead.now ≡ old.ahead.now → IsBounded new → HasMet old (Err e) new
-  cut_faulty e none ahead bounded =
-      faulty e [] (nil_from_length old.ahead.now none) (omega (arith, ap (λ (b : List ℕ). length b) ahead)) bounded
-      (λ left a. meets_none old.line (reverse old.outer.items) left a)
-
-  pub open_met : (behind : List ℕ) → old.ahead.now ≡ 13 ∷ behind → new.ahead.now ≡ behind → new.line ≡ varied old.line
-      → new.outer.items ≡ old.outer.items ++ old.line ∷ [] → IsBounded old → HasMet old (Ok met.Passed) new
-  open_met behind front ahead line outer bounded =
-      let size = ap (λ (b : List ℕ). length b) front in
-      let round : reverse new.outer.items ≡ all_lines old =
-      ap (λ (l : List OpenLine). reverse l) outer ∙ reverse-append old.outer.items (old.line ∷ []) in
-      let fit = same_fit behind bounded (omega (arith, size)) in
-      passing (13 ∷ behind) behind (varied old.line ∷ all_lines old) front ahead (λ i. line i ∷ round i) (omega arith) (omega (arith, fit.0), fit)
-      (λ left a. (open_on old.line (reverse old.outer.items) behind left a).1)
-
-  pub open_faulty : (e : Breach) (behind : List ℕ) → old.ahead.now ≡ 13 ∷ behind → length old.outer.items ≡ 200 → new.ahead.now ≡ old.ahead.now → IsBounded new → HasMet old (Err e) new
-  open_faulty e behind front full ahead bounded =
-      faulty e (13 ∷ behind) front (omega (arith, ap (λ (b : List ℕ). length b) ahead)) bounded
-      (λ left a. omega (arith, (open_on old.line (reverse old.outer.items) behind left a).0, length-reverse old.outer.items, full))
-
-  pub close_met : (behind : List ℕ) → old.ahead.now ≡ 14 ∷ behind → new.ahead.now ≡ behind → old.outer.items ≡ new.outer.items ++ new.line ∷ [] → IsBounded old
-      → HasMet old (Ok met.Passed) new
-  close_met behind front ahead outer bounded =
-      let size = ap (λ (b : List ℕ). length b) front in
-      let round : reverse old.outer.items ≡ all_lines new =
-      ap (λ (l : List OpenLine). reverse l) outer ∙ reverse-append new.outer.items (new.line ∷ []) in
-      passing (14 ∷ behind) behind (reverse old.outer.items) front ahead (sym round) (omega arith) (same_fit behind bounded (omega (arith, size))).1
-      (λ left a. (close_on old.line (reverse old.outer.items) behind left a).1)
-
-  pub close_faulty : (e : Breach) (behind : List ℕ) → old.ahead.now ≡ 14 ∷ behind → length old.outer.items ≡ 0 → new.ahead.now ≡ old.ahead.now → IsBounded new → HasMet old (Err e) new
-  close_faulty e behind front none ahead bounded =
-      faulty e (14 ∷ behind) front (omega (arith, ap (λ (b : List ℕ). length b) ahead)) bounded
-      (λ left a. omega (arith, (close_on old.line (reverse old.outer.items) behind left a).0, length-reverse old.outer.items, none))
-
-  pub end_met : (behind : List ℕ) → old.ahead.now ≡ 15 ∷ behind → new.ahead.now ≡ old.ahead.now → all_lines new ≡ all_lines old → IsBounded new
-      → HasMet old (Ok met.End) new
-  end_met behind front ahead same bounded = record {
-    within = omega (arith, ap (λ (b : List ℕ). length b) ahead);
-    bounded = bounded;
-    is_met = λ left has. (
-      (end_on old.line (reverse old.outer.items) behind left (subst (λ (b : List ℕ). AreLeft (all_lines old) b left) front has)).1,
-      subst (λ (l : List OpenLine). AreLeft l new.ahead.now left) (sym same) (subst (λ (b : List ℕ). AreLeft (all_lines old) b left) (sym ahead) has),
+  mark-met : visit_of (opened old) t ≡ [] → HasMet old (Ok item.Mark) new
+  mark-met none = record {
+    follows = passed;
+    leaves = (
+      less,
+      λ left has.
+          let on = leaving left has in
+          let same : left ≡ on.0 = on.1.0 ∙ ap (λ (v : List Visit). v ++ on.0) none in
+          subst (HasLeft new) (sym same) on.1.1,
     );
-    fewer = tt;
     fault = tt;
   }
 
-  pub end_faulty : (e : Breach) (behind : List ℕ) → old.ahead.now ≡ 15 ∷ behind → (length old.outer.items ≡ 0 → ⊥) → new.ahead.now ≡ old.ahead.now → IsBounded new → HasMet old (Err e) new
-  end_faulty e behind front some ahead bounded =
-      faulty e (15 ∷ behind) front (omega (arith, ap (λ (b : List ℕ). length b) ahead)) bounded
-      (λ left a. some (sym (length-reverse old.outer.items) ∙ (end_on old.line (reverse old.outer.items) behind left a).0))
+  move-met : (m : Move) → visit_of (opened old) t ≡ visit_now new m ∷ [] → HasMet old (Ok (item.Play m)) new
+  move-met m visit = record {
+    follows = passed;
+    leaves = (
+      less,
+      λ left has. let on = leaving left has in (on.0, (on.1.0 ∙ ap (λ (v : List Visit). v ++ on.0) visit, on.1.1)),
+    );
+    fault = tt;
+  }
 
-  pub move_faulty : (e : Breach) (fault : MoveFault) → IsMoveDue old.ahead.now → Decodes old.line.here old.ahead.now (Err fault) → new.ahead.now ≡ old.ahead.now → IsBounded new → HasMet old (Err e) new
-  move_faulty e fault due decodes ahead bounded =
-      faulty e old.ahead.now refl (omega (arith, ap (λ (b : List ℕ). length b) ahead)) bounded
-      (λ left a.
-      let found = move_on old.line (reverse old.outer.items) old.ahead.now left due a in
-      let same = Decodes-one old.line.here old.ahead.now (Ok (found.m, found.used)) (Err fault) found.decodes decodes in
-      absurd (cc))
+-- Behind a move.
+visit-now : (old new : Lines) (m : Move) (n : Numbered) → new.line.place ≡ with_before n (after_move old.line.place m) → new.line.ply ≡ suc old.line.ply
+    → visit_of (opened old) (Play m) ≡ visit_now new m ∷ []
+visit-now old new m n place ply =
+    λ i. record { mv = m; position = (sym place i).here.position; ply = sym ply i; main = (sym place i).depth == 0 } ∷ []
 
-  -- A move was played.
-  pub move_met : (m : Move) (used : ℕ) → IsMoveDue old.ahead.now → Decodes old.line.here old.ahead.now (Ok (m, used)) → 0 < used → used ≤ length old.ahead.now
-      → new.ahead.now ≡ drop used old.ahead.now → IsPlayed old.line m (drop used old.ahead.now) new.line → new.outer ≡ old.outer → IsBounded old
-      → HasMet old (Ok (met.Move m)) new
-  move_met m used due decodes some fits ahead is outer bounded =
-      let lines = reverse old.outer.items in
-      let size = ap (λ (b : List ℕ). length b) ahead in
-      let less = length-drop used old.ahead.now in
-      let kept : reverse new.outer.items ≡ lines = λ i. reverse (outer i).items in
-      let visit : visit_from (length lines == 0) old.line.here.position old.line.ply m ≡ visit_now new m =
-      λ i. record {
-        mv = m;
-        position = sym (Step-stepped old.line.here.position m new.line.here.position is.step) i;
-        ply = sym is.ply_is i;
-        main = (length-reverse old.outer.items ∙ (λ j. length (sym outer j).items)) i == 0;
-      } in
+kept-move : (old new : Lines) (m : Move) → IsKept (after_move old.line.place m) new.line.place new.ahead.now → new.line.ply ≡ suc old.line.ply → kept_in new.outer.now ≡ kept_in old.outer.now
+    → IsKeptIn (opened_after (opened old) (Play m)) (opened new) new.ahead.now × (visit_of (opened old) (Play m) ≡ visit_now new m ∷ [])
+kept-move old new m (inl same) ply outer = (
+  inl (λ i. record { line = record { place = same i; ply = ply i }; outer = reverse (outer i) }),
+  visit-now old new m old.line.place.here same ply,
+)
+kept-move old new m (inr (same, calm)) ply outer = (
+  inr (λ i. record { line = record { place = same i; ply = ply i }; outer = reverse (outer i) }, calm),
+  visit-now old new m new.line.place.before same ply,
+)
+
+-- By the item that was read.
+module _ (old new : Lines) (sound : IsSound old) (used : ℕ) (some : 0 < used) (fits : used ≤ length old.ahead.now) (t : Read)
+    (takes : Takes old.line.place old.ahead.now (token_of t) (drop used old.ahead.now)) (code : Place) (past : IsPast old.line.place (token_of t) code (drop used old.ahead.now))
+    (ahead : new.ahead.now ≡ drop used old.ahead.now) where
+  less : length new.ahead.now < length old.ahead.now
+  less = omega (arith, ap (λ (l : List ℕ). length l) ahead, length-drop used old.ahead.now, some, fits)
+
+  taken : (u : Read) → t ≡ u → Takes old.line.place old.ahead.now (token_of u) new.ahead.now
+  taken u is = rw (← is, ahead) takes
+
+  gone : (u : Read) → t ≡ u → IsPast old.line.place (token_of u) code new.ahead.now
+  gone u is = rw (← is, ahead) past
+
+  pub by_move : (m n : Move) → t ≡ read.Play m → m ≡ n → new.line.place ≡ code → new.line.ply ≡ old.line.ply + 1 → kept_in new.outer.now ≡ kept_in old.outer.now → HasMet old (Ok (item.Play n)) new
+  by_move m n is same place ply outer =
+      let later : IsKept (after_move old.line.place m) new.line.place new.ahead.now =
+      subst (λ (p : Place). IsKept (after_move old.line.place m) p new.ahead.now) (sym place) (gone (read.Play m) is) in
+      let here = kept-move old new m later (ply ∙ add-one old.line.ply) outer in
+      subst (λ (x : Move). HasMet old (Ok (item.Play x)) new) same (move-met old new sound (Play m) tt (taken (read.Play m) is) here.0 less m here.1)
+
+  still : (u : Read) → t ≡ u → IsInner (token_of u) → visit_of (opened old) (token_of u) ≡ [] → opened new ≡ opened_after (opened old) (token_of u) → HasMet old (Ok item.Mark) new
+  still u is inner none same = mark-met old new sound (token_of u) inner (taken u is) (inl same) less none
+
+  pub by_nag : (n : ℕ) → t ≡ read.Nag n → new.line.place ≡ code → new.line.ply ≡ old.line.ply → kept_in new.outer.now ≡ kept_in old.outer.now → HasMet old (Ok item.Mark) new
+  by_nag n is place ply outer =
+      let there = place ∙ gone (read.Nag n) is in
+      still (read.Nag n) is tt refl (λ i. record { line = record { place = there i; ply = ply i }; outer = reverse (outer i) })
+
+  pub by_comment : t ≡ read.Comment → new.line.place ≡ code → new.line.ply ≡ old.line.ply → kept_in new.outer.now ≡ kept_in old.outer.now → HasMet old (Ok item.Mark) new
+  by_comment is place ply outer =
+      let there = place ∙ gone read.Comment is in
+      still read.Comment is tt refl (λ i. record { line = record { place = there i; ply = ply i }; outer = reverse (outer i) })
+
+  pub by_open : t ≡ read.Open → (round : OpenLine) → round.place ≡ code → round.ply ≡ old.line.ply → new.line ≡ varied round → kept_in new.outer.now ≡ kept_in old.outer.now ++ round ∷ []
+      → HasMet old (Ok item.Mark) new
+  by_open is round place ply line outer =
+      let there = place ∙ gone read.Open is in
+      let same : round ≡ old.line = λ i. record { place = there i; ply = ply i } in
+      let inner = line ∙ ap varied same in
+      let around : reverse (kept_in new.outer.now) ≡ old.line ∷ reverse (kept_in old.outer.now) =
+      ap (λ (l : List OpenLine). reverse l) outer
+      ∙ reverse-append (kept_in old.outer.now) (round ∷ [])
+      ∙ ap (λ (o : OpenLine). o ∷ reverse (kept_in old.outer.now)) same in
+      still read.Open is tt refl (λ i. record { line = inner i; outer = around i })
+
+  pub by_close : t ≡ read.Close → kept_in old.outer.now ≡ kept_in new.outer.now ++ new.line ∷ [] → HasMet old (Ok item.Mark) new
+  by_close is outer =
+      let around : reverse (kept_in old.outer.now) ≡ new.line ∷ reverse (kept_in new.outer.now) =
+      ap (λ (l : List OpenLine). reverse l) outer ∙ reverse-append (kept_in new.outer.now) (new.line ∷ []) in
+      still read.Close is tt refl (sym (ap (λ (l : List OpenLine). opened_out old.line l) around))
+
+module _ (old new : Lines) (sound : IsSound old) where
+  -- The end of the game is not passed.
+  pub by_end : (later : List ℕ) → Takes old.line.place old.ahead.now End later → new.line.place ≡ old.line.place → new.line.ply ≡ old.line.ply → kept_in new.outer.now ≡ kept_in old.outer.now
+      → new.ahead.now ≡ old.ahead.now → HasMet old (Ok item.End) new
+  by_end later takes place ply outer ahead =
+      let same : opened new ≡ opened old = λ i. record { line = record { place = place i; ply = ply i }; outer = reverse (outer i) } in
       record {
-        within = omega (arith, size, less);
-        bounded = (
-          omega (arith, bounded.0, is.ply_is, size, less, some, fits),
-          subst (λ (l : List OpenLine). AllFit (length new.ahead.now) l) (sym kept)
-              (fit_less (length old.ahead.now) (length new.ahead.now) lines (omega (arith, size, less)) bounded.1),
+        follows = record {
+          within = omega (arith, ap (λ (l : List ℕ). length l) ahead);
+          sound = subst (λ (x : Opened). AreSound (length new.ahead.now) (all_lines x)) (sym same)
+              (subst (λ (l : List ℕ). AreSound (length l) (all_lines (opened old))) (sym ahead) sound);
+          on = λ ts stop h. (
+            ts,
+            subst (λ (x : Opened). Scans (nest_at x) old.ahead.now ts stop) same (subst (λ (l : List ℕ). Scans (nest_at (opened new)) l ts stop) ahead h),
+          );
+        };
+        leaves = λ left has. (
+          ended has.tokens has.behind left has.scans has.left_are,
+          subst (λ (x : Opened). AreLeft x new.ahead.now left) (sym same) (subst (λ (l : List ℕ). AreLeft (opened old) l left) (sym ahead) has),
         );
-        is_met =
-            λ left a.
-            let found = move_on old.line lines old.ahead.now left due a in
-            let same : (found.m, found.used) ≡ (m, used) =
-            same_ok (found.m, found.used) (m, used) (Decodes-one old.line.here old.ahead.now (Ok (found.m, found.used)) (Ok (m, used)) found.decodes decodes) in
-            let on : (next : OpenLine) → IsPlayed old.line m (drop used old.ahead.now) next → AreLeft (next ∷ lines) (drop used old.ahead.now) found.more =
-            subst (λ (d : Move × ℕ). (next : OpenLine) → IsPlayed old.line d.0 (drop d.1 old.ahead.now) next → AreLeft (next ∷ lines) (drop d.1 old.ahead.now) found.more) same found.on in
-            let more = found.more in
-            let there : AreLeft (new.line ∷ lines) (drop used old.ahead.now) more = on new.line is in (
-              more,
-              (
-                found.first ∙ ap (λ (d : Move × ℕ). visit_from (length lines == 0) old.line.here.position old.line.ply d.0 ∷ found.more) same
-                    ∙ ap (λ (v : Visit). v ∷ found.more) visit,
-                subst (λ (l : List OpenLine). AreLeft (new.line ∷ l) new.ahead.now more) (sym kept)
-                    (subst (λ (b : List ℕ). AreLeft (new.line ∷ lines) b more) (sym ahead) there),
-              ),
-            );
-        fewer = omega (arith, size, less, some, fits);
         fault = tt;
       }
+    where
+      ended : (ts : List Token) (behind : List ℕ) (left : List Visit) → Scans (nest_at (opened old)) old.ahead.now ts (Ok behind) → left ≡ visits_in (opened old) ts → left ≡ []
+      ended [] behind left h is = is
+      ended (u ∷ us) behind left h is = absurd (subst IsInner (Takes-one old.line.place old.ahead.now u End h.1.0 later h.1.1 takes).0 h.0)
+
+  -- A fault, behind which the place is kept as well.
+  pub by_fault : (e : Breach) → e.left ≡ length old.ahead.now → FaultAt old.line.place old.ahead.now e.what → IsKept old.line.place new.line.place old.ahead.now
+      → new.line.ply ≡ old.line.ply → kept_in new.outer.now ≡ kept_in old.outer.now → new.ahead.now ≡ old.ahead.now → HasMet old (Err e) new
+  by_fault e left fault place ply outer ahead =
+      let kept : IsKeptIn (opened old) (opened new) old.ahead.now = kept-place place in
+      record {
+        follows = record {
+          within = omega (arith, ap (λ (l : List ℕ). length l) ahead);
+          sound = subst (λ (l : List ℕ). AreSound (length l) (all_lines (opened new))) (sym ahead)
+              (sound-kept (length old.ahead.now) (opened old) (opened new) old.ahead.now kept sound);
+          on = λ ts stop h. (
+            ts,
+            scans-kept (opened old) (opened new) old.ahead.now ts stop sound.0 kept (subst (λ (l : List ℕ). Scans (nest_at (opened new)) l ts stop) ahead h),
+          );
+        };
+        leaves = tt;
+        fault = (old.ahead.now, sym left, ([], (refl, fault)));
+      }
+    where
+      kept-place : IsKept old.line.place new.line.place old.ahead.now → IsKeptIn (opened old) (opened new) old.ahead.now
+      kept-place (inl same) = inl (λ i. record { line = record { place = same i; ply = ply i }; outer = reverse (outer i) })
+      kept-place (inr (same, calm)) = inr (λ i. record { line = record { place = same i; ply = ply i }; outer = reverse (outer i) }, calm)
 
 -- From the first of these lines on so much was passed.
 pub record HasCome (first now : Lines) : Type 0 where
-  pub within : length now.ahead.now ≤ length first.ahead.now
-  pub bounded : IsBounded now
-  pub on : (left : List Visit) → HasLeft first left → HasLeft now left
+  pub follows : Follows first now
+  pub left : (left : List Visit) → HasLeft first left → HasLeft now left
 
-pub come_none : (first : Lines) → IsBounded first → HasCome first first
-come_none first bounded = record { within = omega arith; bounded = bounded; on = λ left has. has }
+pub come_none : (first : Lines) → IsSound first → HasCome first first
+come_none first sound = record { follows = record { within = omega arith; sound = sound; on = λ ts stop h. (ts, h) }; left = λ left has. has }
+
+follows-then : (first now next : Lines) → Follows first now → Follows now next → Follows first next
+follows-then first now next one two = record {
+  within = omega (arith, one.within, two.within);
+  sound = two.sound;
+  on = λ ts stop h. let there = two.on ts stop h in one.on there.0 stop there.1;
+}
 
 module _ (first now next : Lines) (come : HasCome first now) where
-  pub come_more : HasMet now (Ok met.Passed) next → HasCome first next
-  come_more is = record {
-    within = omega (arith, come.within, is.within);
-    bounded = is.bounded;
-    on = λ left has. is.is_met left (come.on left has);
-  }
+  pub come_more : HasMet now (Ok item.Mark) next → HasCome first next
+  come_more is = record { follows = follows-then first now next come.follows is.follows; left = λ left has. is.leaves.1 left (come.left left has) }
 
-  pub come_end : HasMet now (Ok met.End) next → HasGone first (Ok None) next
-  come_end is = record {
-    within = omega (arith, come.within, is.within);
-    bounded = is.bounded;
-    next = λ left has. is.is_met left (come.on left has);
-    fewer = tt;
-    fault = tt;
-  }
+  pub come_end : HasMet now (Ok item.End) next → HasGone first (Ok None) next
+  come_end is = record { follows = follows-then first now next come.follows is.follows; leaves = λ left has. is.leaves left (come.left left has); fault = tt }
 
-  pub come_move : (m : Move) → HasMet now (Ok (met.Move m)) next → HasGone first (Ok (Some m)) next
+  pub come_move : (m : Move) → HasMet now (Ok (item.Play m)) next → HasGone first (Ok (Some m)) next
   come_move m is = record {
-    within = omega (arith, come.within, is.within);
-    bounded = is.bounded;
-    next = λ left has. is.is_met left (come.on left has);
-    fewer = omega (arith, come.within, is.fewer);
+    follows = follows-then first now next come.follows is.follows;
+    leaves = (omega (arith, come.follows.within, is.leaves.0), λ left has. is.leaves.1 left (come.left left has));
     fault = tt;
   }
 
   pub come_fault : (e : Breach) → HasMet now (Err e) next → HasGone first (Err e) next
   come_fault e is = record {
-    within = omega (arith, come.within, is.within);
-    bounded = is.bounded;
-    next = tt;
-    fewer = tt;
-    fault = λ left has. is.fault left (come.on left has);
+    follows = follows-then first now next come.follows is.follows;
+    leaves = tt;
+    fault = let there = come.follows.on is.fault.2.0 (Err (is.fault.0, e.what)) is.fault.2.1 in (is.fault.0, is.fault.1, there);
   }

@@ -107,7 +107,7 @@ pub Plays-behind : (p q r : At) (m : Move) → Passes p q → Plays q m r → Pl
 Plays-behind p q r m one two = record {
   reads = Reads-then p q r one.reads two.reads;
   less = omega (arith, one.reads.shorter, two.less);
-  step = subst (λ (n : Numbered). Step n.position m r.place.here.position) one.same two.step;
+  step = subst (λ (n : Numbered). Step n.position m r.place.now.here.position) one.same two.step;
   goes = λ moves g. two.goes moves (subst (λ (n : Numbered). GoesOn n moves q.rest.now) (sym one.same) (one.goes moves g));
 }
 
@@ -120,24 +120,24 @@ kept-here : (p code : Place) (bytes : List ℕ) → IsKept p code bytes → (cod
 kept-here p code bytes (inl same) = (ap (λ (q : Place). q.here) same, ap (λ (q : Place). q.depth) same)
 kept-here p code bytes (inr kept) = (ap (λ (q : Place). q.here) kept.0, ap (λ (q : Place). q.depth) kept.0)
 
-module _ (p q : At) (used : ℕ) (fits : used ≤ length p.rest.now) (some : 0 < used) (t : Read) (takes : Takes p.place p.rest.now (token_of t) (drop used p.rest.now))
-    (past : IsPast p.place (token_of t) q.place (drop used p.rest.now)) (later_is : q.rest.now ≡ drop used p.rest.now)
+module _ (p q : At) (used : ℕ) (fits : used ≤ length p.rest.now) (some : 0 < used) (t : Read) (takes : Takes p.place.now p.rest.now (token_of t) (drop used p.rest.now))
+    (past : IsPast p.place.now (token_of t) q.place.now (drop used p.rest.now)) (later_is : q.rest.now ≡ drop used p.rest.now)
     (tally_is : q.tally ≡ added p.tally (token_of t)) where
   size : length q.rest.now + used ≡ length p.rest.now
   size = omega (arith, ap (λ (l : List ℕ). length l) later_is, length-drop used p.rest.now, fits)
 
-  taken : (u : Read) → t ≡ u → Takes p.place p.rest.now (token_of u) (drop used p.rest.now)
-  taken u is = subst (λ (v : Read). Takes p.place p.rest.now (token_of v) (drop used p.rest.now)) is takes
+  taken : (u : Read) → t ≡ u → Takes p.place.now p.rest.now (token_of u) (drop used p.rest.now)
+  taken u is = subst (λ (v : Read). Takes p.place.now p.rest.now (token_of v) (drop used p.rest.now)) is takes
 
-  passed : (u : Read) → t ≡ u → IsPast p.place (token_of u) q.place (drop used p.rest.now)
-  passed u is = subst (λ (v : Read). IsPast p.place (token_of v) q.place (drop used p.rest.now)) is past
+  passed : (u : Read) → t ≡ u → IsPast p.place.now (token_of u) q.place.now (drop used p.rest.now)
+  passed u is = subst (λ (v : Read). IsPast p.place.now (token_of v) q.place.now (drop used p.rest.now)) is past
 
-  reads : q.place.depth ≡ p.place.depth
-      → ((start : Place) (bytes : List ℕ) (before : Tally) → HasTallied start bytes p.place p.rest.now before p.tally → HasTallied start bytes q.place q.rest.now before q.tally)
+  reads : q.place.now.depth ≡ p.place.now.depth
+      → ((start : Place) (bytes : List ℕ) (before : Tally) → HasTallied start bytes p.place.now p.rest.now before p.tally → HasTallied start bytes q.place.now q.rest.now before q.tally)
       → Reads p q
   reads main on = record {
     main = main;
-    room = omega (arith, tally.grown p.place p.rest.now p.place p.rest.now p.tally p.tally (tally.HasTallied-none p.place p.rest.now p.tally) used fits some t takes q.place past q.rest.now later_is q.tally tally_is, size, some);
+    room = omega (arith, tally.grown p.place.now p.rest.now p.place.now p.rest.now p.tally p.tally (tally.HasTallied-none p.place.now p.rest.now p.tally) used fits some t takes q.place.now past q.rest.now later_is q.tally tally_is, size, some);
     shorter = omega (arith, size, some);
     on = on;
   }
@@ -145,15 +145,15 @@ module _ (p q : At) (used : ℕ) (fits : used ≤ length p.rest.now) (some : 0 <
   pub plays : (m : Move) → t ≡ read.Play m → Plays p m q
   plays m is =
       let takes-move = taken (read.Play m) is in
-      let decodes = to_decodes p.place.here p.rest.now (Ok (m, takes-move.1.0)) takes-move.1.1 in
-      let kept = kept-here (after_move p.place m) q.place (drop used p.rest.now) (passed (read.Play m) is) in
+      let decodes = to_decodes p.place.now.here p.rest.now (Ok (m, takes-move.1.0)) takes-move.1.1 in
+      let kept = kept-here (after_move p.place.now m) q.place.now (drop used p.rest.now) (passed (read.Play m) is) in
       record {
         reads = reads kept.1 (λ start bytes before h.
-            tally.by_move start bytes p.place p.rest.now before p.tally h used fits some t takes q.place past q.rest.now later_is q.tally tally_is m is);
+            tally.by_move start bytes p.place.now p.rest.now before p.tally h used fits some t takes q.place.now past q.rest.now later_is q.tally tally_is m is);
         less = omega (arith, size, some);
-        step = subst (λ (n : Numbered). Step p.place.here.position m n.position) (sym kept.0) (Legal-stepped p.place.here.position m decodes.1);
+        step = subst (λ (n : Numbered). Step p.place.now.here.position m n.position) (sym kept.0) (Legal-stepped p.place.now.here.position m decodes.1);
         goes = λ moves g.
-            move_goes p.place.here q.place.here p.rest.now q.rest.now m takes-move.1.0 takes-move.0 decodes kept.0 (later_is ∙ takes-move.1.2) moves g;
+            move_goes p.place.now.here q.place.now.here p.rest.now q.rest.now m takes-move.1.0 takes-move.0 decodes kept.0 (later_is ∙ takes-move.1.2) moves g;
       }
 
   pub plays-as : (m n : Move) → t ≡ read.Play m → m ≡ n → Plays p n q
@@ -162,12 +162,12 @@ module _ (p q : At) (used : ℕ) (fits : used ≤ length p.rest.now) (some : 0 <
   pub nags : (n : ℕ) → t ≡ read.Nag n → Does p item.Mark q
   nags n is =
       let bytes : p.rest.now ≡ 11 ∷ n ∷ q.rest.now = (taken (read.Nag n) is).1 ∙ ap (λ (l : List ℕ). 11 ∷ n ∷ l) (sym later_is) in
-      let place : q.place ≡ p.place = passed (read.Nag n) is in (
+      let place : q.place.now ≡ p.place.now = passed (read.Nag n) is in (
         record {
           reads = reads (ap (λ (s : Place). s.depth) place) (λ start bytes before h.
-              tally.by_nag start bytes p.place p.rest.now before p.tally h used fits some t takes q.place past q.rest.now later_is q.tally tally_is n is);
+              tally.by_nag start bytes p.place.now p.rest.now before p.tally h used fits some t takes q.place.now past q.rest.now later_is q.tally tally_is n is);
           same = ap (λ (s : Place). s.here) place;
-          goes = λ moves g. front_nag p.place.here moves (n ∷ q.rest.now) (subst (GoesOn p.place.here moves) bytes g);
+          goes = λ moves g. front_nag p.place.now.here moves (n ∷ q.rest.now) (subst (GoesOn p.place.now.here moves) bytes g);
         },
         omega (arith, size, some),
       )
@@ -178,35 +178,35 @@ module _ (p q : At) (used : ℕ) (fits : used ≤ length p.rest.now) (some : 0 <
       let place = passed read.Comment is in (
         record {
           reads = reads (ap (λ (s : Place). s.depth) place) (λ start bytes before h.
-              tally.by_comment start bytes p.place p.rest.now before p.tally h used fits some t takes q.place past q.rest.now later_is q.tally tally_is is);
+              tally.by_comment start bytes p.place.now p.rest.now before p.tally h used fits some t takes q.place.now past q.rest.now later_is q.tally tally_is is);
           same = ap (λ (s : Place). s.here) place;
-          goes = λ moves g. front_comment p.place.here moves 12 q.rest.now (subst (GoesOn p.place.here moves) bytes g) refl;
+          goes = λ moves g. front_comment p.place.now.here moves 12 q.rest.now (subst (GoesOn p.place.now.here moves) bytes g) refl;
         },
         omega (arith, size, some),
       )
 
 -- The end of the line, which is not passed
-pub ends : (p : At) (used : ℕ) → Takes p.place p.rest.now End (drop used p.rest.now) → Ends p
+pub ends : (p : At) (used : ℕ) → Takes p.place.now p.rest.now End (drop used p.rest.now) → Ends p
 ends p used takes =
     let behind : drop 1 p.rest.now ≡ drop used p.rest.now = ap (λ (l : List ℕ). drop 1 l) takes.1 in
     record {
-      takes = subst (λ (l : List ℕ). Takes p.place p.rest.now End l) (sym behind) takes;
-      goes = λ moves g. front_ends p.place.here moves 15 (drop used p.rest.now) (subst (GoesOn p.place.here moves) takes.1 g) refl;
+      takes = subst (λ (l : List ℕ). Takes p.place.now p.rest.now End l) (sym behind) takes;
+      goes = λ moves g. front_ends p.place.now.here moves 15 (drop used p.rest.now) (subst (GoesOn p.place.now.here moves) takes.1 g) refl;
     }
 
 -- After a fault the code's place serves as well.
-pub keeps : (p q : At) → IsKept p.place q.place p.rest.now → q.rest.now ≡ p.rest.now → q.tally ≡ p.tally → Passes p q
+pub keeps : (p q : At) → IsKept p.place.now q.place.now p.rest.now → q.rest.now ≡ p.rest.now → q.tally ≡ p.tally → Passes p q
 keeps p q kept rest tally =
-    let same = kept-here p.place q.place p.rest.now kept in
+    let same = kept-here p.place.now q.place.now p.rest.now kept in
     record {
       reads = record {
         main = same.1;
         room = omega (arith, ap size_of tally, ap (λ (l : List ℕ). length l) rest);
         shorter = omega (arith, ap (λ (l : List ℕ). length l) rest);
         on = λ start bytes before h.
-            let moved : HasTallied start bytes q.place p.rest.now before p.tally = record {
+            let moved : HasTallied start bytes q.place.now p.rest.now before p.tally = record {
               tokens = h.tokens;
-              followed = HasFollowed-kept start bytes p.place q.place p.rest.now h.tokens h.followed kept;
+              followed = HasFollowed-kept start bytes p.place.now q.place.now p.rest.now h.tokens h.followed kept;
               tally_is = h.tally_is;
               few = h.few;
             } in
@@ -216,17 +216,17 @@ keeps p q kept rest tally =
       goes = λ moves g. rw rest g;
     }
 
-pub faults : (p : At) (breach : Breach) → breach.left ≡ length p.rest.now → FaultAt p.place p.rest.now breach.what → BreaksLine p breach
+pub faults : (p : At) (breach : Breach) → breach.left ≡ length p.rest.now → FaultAt p.place.now p.rest.now breach.what → BreaksLine p breach
 faults p breach left fault = λ start bytes before h.
-    (p.rest.now, sym left, HasTallied-breaks start bytes p.place p.rest.now before p.tally breach.what h fault)
+    (p.rest.now, sym left, HasTallied-breaks start bytes p.place.now p.rest.now before p.tally breach.what h fault)
 
 -- A variation
-module _ (p : At) (behind : List ℕ) (takes : Takes p.place p.rest.now Open behind) where
+module _ (p : At) (behind : List ℕ) (takes : Takes p.place.now p.rest.now Open behind) where
   behind_is : behind ≡ drop 1 p.rest.now
   behind_is = sym (ap (λ (l : List ℕ). drop 1 l) takes.2)
 
-  takes-one : Takes p.place p.rest.now Open (drop 1 p.rest.now)
-  takes-one = subst (λ (l : List ℕ). Takes p.place p.rest.now Open l) behind_is takes
+  takes-one : Takes p.place.now p.rest.now Open (drop 1 p.rest.now)
+  takes-one = subst (λ (l : List ℕ). Takes p.place.now p.rest.now Open l) behind_is takes
 
   one-fits : 1 ≤ length p.rest.now
   one-fits = omega (arith, ap (λ (l : List ℕ). length l) takes.2)
@@ -234,12 +234,12 @@ module _ (p : At) (behind : List ℕ) (takes : Takes p.place p.rest.now Open beh
   shorter : length behind + 1 ≡ length p.rest.now
   shorter = omega (arith, ap (λ (l : List ℕ). length l) takes.2)
 
-  pub varies : (q : At) (inner : Place) (met final : Tally) (more : ℕ) → inner ≡ variation_of p.place → met ≡ added p.tally Open → more ≤ length behind
-      → size_of final ≤ size_of met + more → LineTallied inner behind more met final → q.place ≡ p.place → q.rest.now ≡ drop more behind → q.tally ≡ final
+  pub varies : (q : At) (inner : Place) (met final : Tally) (more : ℕ) → inner ≡ variation_of p.place.now → met ≡ added p.tally Open → more ≤ length behind
+      → size_of final ≤ size_of met + more → LineTallied inner behind more met final → q.place.now ≡ p.place.now → q.rest.now ≡ drop more behind → q.tally ≡ final
       → Does p item.Mark q
   varies q inner met final more inner_is met_is fits few line place rest tally_is =
       let size : length q.rest.now + more ≡ length behind = omega (arith, ap (λ (l : List ℕ). length l) rest, length-drop more behind, fits) in
-      let spells : SpellsMoves (variation_of p.place) line.0 behind (drop more behind) = subst (λ (s : Place). SpellsMoves s line.0 behind (drop more behind)) inner_is line.1.0 in
+      let spells : SpellsMoves (variation_of p.place.now) line.0 behind (drop more behind) = subst (λ (s : Place). SpellsMoves s line.0 behind (drop more behind)) inner_is line.1.0 in
       let met-size : size_of met ≡ size_of p.tally + 1 = omega (arith, ap size_of met_is) in (
         record {
           reads = record {
@@ -247,31 +247,31 @@ module _ (p : At) (behind : List ℕ) (takes : Takes p.place p.rest.now Open beh
             room = omega (arith, ap size_of tally_is, few, met-size, size, shorter);
             shorter = omega (arith, size, shorter);
             on = λ start bytes before h.
-                let moved : HasTallied start bytes p.place q.rest.now before final =
-                tally.by_variation start bytes p.place p.rest.now before p.tally h 1 one-fits (omega arith) read.Open takes-one p.place refl behind behind_is met met_is
+                let moved : HasTallied start bytes p.place.now q.rest.now before final =
+                tally.by_variation start bytes p.place.now p.rest.now before p.tally h 1 one-fits (omega arith) read.Open takes-one p.place.now refl behind behind_is met met_is
                 refl inner inner_is more fits final few q.rest.now rest line in
                 rw (place, tally_is) moved;
           };
           same = ap (λ (s : Place). s.here) place;
           goes = λ moves g.
-              let shown : GoesOn p.place.here moves (13 ∷ behind) = subst (GoesOn p.place.here moves) takes.2 g in
-              subst (GoesOn p.place.here moves) (sym rest)
-              (front_variation p.place.here moves 13 behind shown more refl
-              (λ other within. passed_variation (variation_of p.place) line.0 behind (drop more behind) other (omega arith) spells within));
+              let shown : GoesOn p.place.now.here moves (13 ∷ behind) = subst (GoesOn p.place.now.here moves) takes.2 g in
+              subst (GoesOn p.place.now.here moves) (sym rest)
+              (front_variation p.place.now.here moves 13 behind shown more refl
+              (λ other within. passed_variation (variation_of p.place.now) line.0 behind (drop more behind) other (omega arith) spells within));
         },
         omega (arith, size, shorter),
       )
 
-  pub varies-badly : (inner : Place) (breach : Breach) → inner ≡ variation_of p.place
+  pub varies-badly : (inner : Place) (breach : Breach) → inner ≡ variation_of p.place.now
       → Tells (λ from what. (u : Upto) × BreaksMoves inner u behind from what) breach → BreaksLine p breach
   varies-badly inner breach inner_is tells = λ start bytes before h.
-      tally.by_fault start bytes p.place p.rest.now before p.tally h 1 one-fits (omega arith) read.Open takes-one p.place refl behind behind_is (added p.tally Open) refl
+      tally.by_fault start bytes p.place.now p.rest.now before p.tally h 1 one-fits (omega arith) read.Open takes-one p.place.now refl behind behind_is (added p.tally Open) refl
       refl inner inner_is breach tells
 
 -- The end of the record
 
 module _ (p q : At) (bytes : List ℕ) (reads : Reads p q) (has : HasRead bytes p) where
-  at : HasTallied (beginning 0 has.start) has.behind_start q.place q.rest.now no_tally q.tally
+  at : HasTallied (beginning 0 has.start) has.behind_start q.place.now q.rest.now no_tally q.tally
   at = reads.on (beginning 0 has.start) has.behind_start no_tally has.tallied
 
   pub HasRead-more : HasRead bytes q
@@ -295,8 +295,8 @@ module _ (p q : At) (bytes : List ℕ) (reads : Reads p q) (has : HasRead bytes 
 
   whole : Ends q → Whole
   whole ends =
-      let last : Takes q.place q.rest.now (ending q.place.depth) (drop 1 q.rest.now) =
-      subst (λ (t : Token). Takes q.place q.rest.now t (drop 1 q.rest.now)) (sym (ending-main q.place.depth (reads.main ∙ has.main))) ends.takes in
+      let last : Takes q.place.now q.rest.now (ending q.place.now.depth) (drop 1 q.rest.now) =
+      subst (λ (t : Token). Takes q.place.now q.rest.now t (drop 1 q.rest.now)) (sym (ending-main q.place.now.depth (reads.main ∙ has.main))) ends.takes in
       let spelled = at.followed.spells [] (drop 1 q.rest.now) (record { movetext = end; spells = last; items = refl }) in
       record {
         movetext = spelled.movetext;
@@ -354,14 +354,14 @@ line-broken p bytes breach has breaks =
 
 -- The game's main line
 
-pub passes-behind : (game : GameTree) (ply : ℕ) (p q : At) → Passes p q → IsBehind game p.place.here ply p.rest.now → IsBehind game q.place.here ply q.rest.now
+pub passes-behind : (game : GameTree) (ply : ℕ) (p q : At) → Passes p q → IsBehind game p.place.now.here ply p.rest.now → IsBehind game q.place.now.here ply q.rest.now
 passes-behind game ply p q passes is =
-    let on : IsBehind game p.place.here ply q.rest.now = record { within = is.within; position = is.position; line = passes.goes _ is.line } in
+    let on : IsBehind game p.place.now.here ply q.rest.now = record { within = is.within; position = is.position; line = passes.goes _ is.line } in
     subst (λ (n : Numbered). IsBehind game n ply q.rest.now) (sym passes.same) on
 
 pub begun-reading : (bytes : List ℕ) (p : At) (start : Numbered) (used : ℕ) → length bytes < 2 ^ 32
     → ((tags : List Tag) × ((behind : List ℕ) × (BeginsTags bytes tags behind × BeginsStart behind start (drop used bytes))))
-    → p.place ≡ beginning 0 start → p.rest.now ≡ drop used bytes → p.tally ≡ no_tally
+    → p.place.now ≡ beginning 0 start → p.rest.now ≡ drop used bytes → p.tally ≡ no_tally
     → ((tags : List Tag) (game : GameTree) → IsRecord bytes tags game → IsBehind game start 0 (drop used bytes)) → IsReading bytes p 0
 begun-reading bytes p start used few starts place rest tally follows =
     let size : length p.rest.now ≤ length bytes = omega (arith, ap (λ (l : List ℕ). length l) rest, length-drop used bytes) in
@@ -397,15 +397,15 @@ module _ (bytes : List ℕ) (p q : At) (ply : ℕ) (is : IsReading bytes p ply) 
     few = is.few;
     left = omega (arith, is.left, plays.less);
     read = HasRead-more p q bytes plays.reads is.read;
-    follows = λ tags game r. behind_more game p.place.here ply p.rest.now (is.follows tags game r) q.place.here q.rest.now m plays.step plays.goes;
+    follows = λ tags game r. behind_more game p.place.now.here ply p.rest.now (is.follows tags game r) q.place.now.here q.rest.now m plays.step plays.goes;
   }
 
   pub next-played : (m : Move) → Plays p m q → (tags : List Tag) (game : GameTree) → IsRecord bytes tags game → next_at game ply ≡ Some m
-  next-played m plays tags game r = behind_next game p.place.here ply p.rest.now (is.follows tags game r) q.place.here q.rest.now m plays.step plays.goes
+  next-played m plays tags game r = behind_next game p.place.now.here ply p.rest.now (is.follows tags game r) q.place.now.here q.rest.now m plays.step plays.goes
 
   pub none-next : Passes p q → Ends q → (tags : List Tag) (game : GameTree) → IsRecord bytes tags game → next_at game ply ≡ None
   none-next passes ends tags game r =
-      behind_ends game q.place.here ply q.rest.now (passes-behind game ply p q passes (is.follows tags game r)) ends.goes
+      behind_ends game q.place.now.here ply q.rest.now (passes-behind game ply p q passes (is.follows tags game r)) ends.goes
 
   pub reading-broken : (breach : Breach) → BreaksLine p breach → Tells (Breaks bytes) breach
   reading-broken breach breaks = line-broken p bytes breach is.read breaks

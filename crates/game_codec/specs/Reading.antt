@@ -25,29 +25,29 @@ use Rattle.game_codec.specs.declared.totals.Totals.{Totals}
 
 -- Any line that was read as far as the one place was read as far as the other.
 pub record Reads (p q : At) : Type 0 where
-  pub main : q.place.depth ≡ p.place.depth
+  pub main : q.place.now.depth ≡ p.place.now.depth
   pub room : size_of q.tally + length q.rest.now ≤ size_of p.tally + length p.rest.now
   pub shorter : length q.rest.now ≤ length p.rest.now
-  pub on : (start : Place) (bytes : List ℕ) (before : Tally) → HasTallied start bytes p.place p.rest.now before p.tally
-      → HasTallied start bytes q.place q.rest.now before q.tally
+  pub on : (start : Place) (bytes : List ℕ) (before : Tally) → HasTallied start bytes p.place.now p.rest.now before p.tally
+      → HasTallied start bytes q.place.now q.rest.now before q.tally
 
 -- Between the two stands no move of the main line.
 pub record Passes (p q : At) : Type 0 where
   pub reads : Reads p q
-  pub same : q.place.here ≡ p.place.here
-  pub goes : (moves : List Move) → GoesOn p.place.here moves p.rest.now → GoesOn p.place.here moves q.rest.now
+  pub same : q.place.now.here ≡ p.place.now.here
+  pub goes : (moves : List Move) → GoesOn p.place.now.here moves p.rest.now → GoesOn p.place.now.here moves q.rest.now
 
 -- Between the two stands this move of the main line alone.
 pub record Plays (p : At) (m : Move) (q : At) : Type 0 where
   pub reads : Reads p q
   pub less : length q.rest.now < length p.rest.now
-  pub step : Step p.place.here.position m q.place.here.position
-  pub goes : (moves : List Move) → GoesOn p.place.here moves p.rest.now → (later : List Move) × ((moves ≡ m ∷ later) × GoesOn q.place.here later q.rest.now)
+  pub step : Step p.place.now.here.position m q.place.now.here.position
+  pub goes : (moves : List Move) → GoesOn p.place.now.here moves p.rest.now → (later : List Move) × ((moves ≡ m ∷ later) × GoesOn q.place.now.here later q.rest.now)
 
 -- The main line ends here.
 pub record Ends (p : At) : Type 0 where
-  pub takes : Takes p.place p.rest.now End (drop 1 p.rest.now)
-  pub goes : (moves : List Move) → GoesOn p.place.here moves p.rest.now → moves ≡ []
+  pub takes : Takes p.place.now p.rest.now End (drop 1 p.rest.now)
+  pub goes : (moves : List Move) → GoesOn p.place.now.here moves p.rest.now → moves ≡ []
 
 -- What one item of a main line does.
 abbrev pub Does : At → Item → At → Type 0
@@ -58,7 +58,7 @@ Does p item.End q = Passes p q × Ends q
 -- The fault of any line that was read as far as here.
 abbrev pub BreaksLine : At → Breach → Type 0
 BreaksLine p breach =
-    (start : Place) (bytes : List ℕ) (before : Tally) → HasTallied start bytes p.place p.rest.now before p.tally
+    (start : Place) (bytes : List ℕ) (before : Tally) → HasTallied start bytes p.place.now p.rest.now before p.tally
     → Tells (λ from what. (v : Upto) × BreaksMoves start v bytes from what) breach
 
 -- The whole tags and the start of the bytes were read, and the main line from there on as far as here.
@@ -69,8 +69,8 @@ pub record HasRead (bytes : List ℕ) (p : At) : Type 0 where
   pub behind_start : List ℕ
   pub tags_first : BeginsTags bytes tags behind_tags
   pub then_start : BeginsStart behind_tags start behind_start
-  pub tallied : HasTallied (beginning 0 start) behind_start p.place p.rest.now no_tally p.tally
-  pub main : p.place.depth ≡ 0
+  pub tallied : HasTallied (beginning 0 start) behind_start p.place.now p.rest.now no_tally p.tally
+  pub main : p.place.now.depth ≡ 0
   pub room : size_of p.tally + length p.rest.now ≤ length bytes
 
 -- And if the bytes are a record, this is in the main line of its game.
@@ -78,7 +78,7 @@ pub record IsReading (bytes : List ℕ) (p : At) (ply : ℕ) : Type 0 where
   pub few : length bytes < 2 ^ 32
   pub left : ply + length p.rest.now ≤ length bytes
   pub read : HasRead bytes p
-  pub follows : (tags : List Tag) (game : GameTree) → IsRecord bytes tags game → IsBehind game p.place.here ply p.rest.now
+  pub follows : (tags : List Tag) (game : GameTree) → IsRecord bytes tags game → IsBehind game p.place.now.here ply p.rest.now
 
 -- Bytes that were read as far as here are a record of a game that has these totals; or they have this fault.
 abbrev pub Finishes : At → Totals → Type 0

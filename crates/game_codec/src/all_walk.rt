@@ -1,24 +1,26 @@
 //! All lines of a record, without its tree.
-ghost use Rattle.std.specs.Prelude.{◌≡◌, ◌+◌, ◌<◌, ◌≤◌, ◌==◌, ◌^◌, ◌⊎◌, ℕ, List, [], Some, None, Ok, ◌∷◌, length, drop, slice_get, IsTrue, IfOk, IfErr, MatchOption};
+ghost use Rattle.std.specs.Prelude.{◌≡◌, ◌+◌, ◌<◌, ◌≤◌, ◌==◌, ◌^◌, List, [], ◌∷◌, ◌++◌, Some, None, Ok, length, slice_get, IsTrue, IfOk, IfErr, MatchOption};
 ghost use Rattle.game_tree.specs.Game.{GameTree};
+ghost use Rattle.game_tree.specs.Legal.{deepest};
 ghost use Rattle.game_tree.specs.declared.head.Tag.{Tag as TagValue};
-ghost use Rattle.move_codec.specs.Packed.{Decodes};
 ghost use Rattle.game_codec.specs.Fault.{IsRecordFault};
-ghost use Rattle.game_codec.specs.Nests.{IsCalmBehind};
-ghost use Rattle.game_codec.specs.Place.{IsMoveDue};
+ghost use Rattle.game_codec.specs.Place.{beginning};
 ghost use Rattle.game_codec.specs.Record.{IsRecord, IsSomeRecord};
 ghost use Rattle.game_codec.specs.Visits.{all_visits};
-ghost use Rattle.game_codec.specs.Blank.{blank};
-ghost use Rattle.game_codec.specs.Open.{HasGone, HasMet, IsBounded, IsPlayed, varied};
+ghost use Rattle.game_codec.specs.Blank.{blank, kept_in};
+ghost use Rattle.game_codec.specs.Open.{HasGone, HasMet, IsSound, varied};
 
 use super::breach::Breach;
-use super::fault::{RecordFault, RecordWhat};
-use super::place::hangs_behind;
+use super::fault::RecordFault;
+use super::place::Place;
+use super::reading::Item;
+use super::token::Token;
+use super::tokens::next_token;
 use super::walk::{begin, fault_at};
 use arrayvec::ArrayVec;
 use cell_core::Move;
 use chess_laws::Position;
-use move_codec::{MoveFault, Numbered};
+use move_codec::Numbered;
 use std::marker::Model;
 use std::mem::replace;
 
@@ -32,23 +34,22 @@ pub struct AllWalk<'a> {
 }
 
 impl<'a> Model for AllWalk<'a> {
-    ghost use Rattle.std.specs.Prelude.{◌==◌, length};
+    ghost use Rattle.std.specs.Prelude.{◌==◌};
     ghost use Rattle.game_codec.specs.AllWalk.{AllWalked};
 
     ghost Value = { AllWalked };
 
-    ghost use Rattle.game_codec.specs.Blank.{blank};
     ghost use Rattle.game_codec.specs.Open.{IsAllWalk};
 
-    ghost view = { λ w. record { bytes = w.bytes.now; given = w.given; position = w.lines.line.here.position; ply = w.lines.line.ply; on_main = length w.lines.outer.items == 0 } };
+    ghost view = { λ w. record { bytes = w.bytes.now; given = w.given; position = w.lines.line.place.here.position; ply = w.lines.line.ply; on_main = w.lines.line.place.depth == 0 } };
 
     ghost invariant = { λ w. IsAllWalk w.bytes.now w.lines w.given };
 }
 
 impl<'a> AllWalk<'a> {
-    /// The walk at the start of a record's main line. A record has fewer than 2^32 bytes. The fault is the first of bytes that are
-    /// no record.
-    pub fn new(bytes: &'a [u8]) -> Result<AllWalk<'a>, RecordFault>
+    /// The walk at the start of a record's main line, which keeps its open lines in the room that is lent. A record has fewer than 2^32
+    /// bytes. The fault is the first of bytes that are no record.
+    pub fn new(bytes: &'a [u8], outer: &'a mut OuterLines) -> Result<AllWalk<'a>, RecordFault>
         requires few { length bytes.now < 2 ^ 32 }
         ensures bytes { IfOk result (λ walk. walk.bytes ≡ bytes.now) }
         ensures given { IfOk result (λ walk. walk.given ≡ 0) }
@@ -63,7 +64,7 @@ impl<'a> AllWalk<'a> {
         match begin(bytes, &mut start) {
             Ok(used) => Ok(AllWalk {
                 bytes,
-                lines: Lines::beginning(start, bytes.split_at(used).1),
+                lines: Lines::beginning(start, bytes.split_at(used).1, outer),
                 given: 0,
             }),
             Err(breach) => Err(fault_at(bytes, breach)),
@@ -74,7 +75,7 @@ impl<'a> AllWalk<'a> {
     pub fn position(&self) -> &Position
         ensures position { result.now ≡ self.now.position }
     {
-        self.lines.line.here.position()
+        self.lines.line.place.position()
     }
 
     /// How many moves of its own line lead there from the game's start.
@@ -88,11 +89,11 @@ impl<'a> AllWalk<'a> {
     pub fn on_main(&self) -> bool
         ensures main { result ≡ self.now.on_main }
     {
-        self.lines.outer.is_empty()
+        self.lines.line.place.depth() == 0
     }
 
-    /// Plays the next move in written order and gives it, or gives `None` after the last one. Bytes that give a fault
-    /// are no record. After `None` and after a fault the position is that of some line.
+    /// Plays the next move in written order and gives it, or gives `None` after the last one. The fault is the first of the bytes. After
+    /// `None` and after a fault the position is that of some line.
     pub fn step(&mut self) -> Result<Option<Move>, RecordFault>
         // On a record of a game it is the next of all its moves.
         ensures next { IfOk result (λ next. (tags : List TagValue) (game : GameTree) → IsRecord self.old.bytes tags game
@@ -103,7 +104,8 @@ impl<'a> AllWalk<'a> {
         ensures bounded { self.new.given ≤ length self.new.bytes }
         ensures bytes { self.new.bytes ≡ self.old.bytes }
         ensures fault { IfErr result (λ _. IsSomeRecord self.old.bytes → ⊥) }
-        // Which fault it tells, and at which place, is tested: `game_vectors`, `fault_tests`.
+        // All that stands before it was checked.
+        ensures first { IfErr result (IsRecordFault self.old.bytes) }
         ensures place { IfErr result (λ fault. fault.place ≤ length self.old.bytes) }
     {
         match self.lines.next_move() {
@@ -117,12 +119,52 @@ impl<'a> AllWalk<'a> {
     }
 }
 
-// An open line: the position before its last move and the one behind it, and how many moves led there. The position
-// before the last move is kept only if a variation of that move may begin.
+/// Room for the open lines of a walk: as many as variations may stand one inside another. All its places are cleared when it is made, which
+/// may take longer than a walk. So it is lent to one walk after the other.
+#[derive(Drop)]
+pub struct OuterLines {
+    lines: ArrayVec<Option<OpenLine>, 200>,
+}
+
+impl OuterLines {
+    /// Room without an open line.
+    pub fn new() -> OuterLines {
+        OuterLines {
+            lines: ArrayVec::new(),
+        }
+    }
+
+    // Takes all lines out.
+    fn clear(&mut self)
+        ensures none { kept_in self.new ≡ [] }
+    {
+        self.lines.clear();
+    }
+
+    // Puts a line in, round which the others stand.
+    fn push(&mut self, line: OpenLine)
+        requires room { length (kept_in self.old) < 200 }
+        ensures lines { kept_in self.new ≡ kept_in self.old ++ line ∷ [] }
+    {
+        self.lines.push(Some(line));
+    }
+
+    // Takes the line out that was put in last.
+    fn pop(&mut self) -> OpenLine
+        requires some { 0 < length (kept_in self.old) }
+        ensures lines { kept_in self.old ≡ kept_in self.new ++ result ∷ [] }
+    {
+        match self.lines.pop() {
+            Some(Some(line)) => line,
+            _ => OpenLine::blank(),
+        }
+    }
+}
+
+// An open line: the place in it, and how many moves led there.
 #[derive(Drop)]
 struct OpenLine {
-    before: Numbered,
-    here: Numbered,
+    place: Place,
     ply: u32,
 }
 
@@ -132,87 +174,19 @@ impl OpenLine {
         ensures blank { result ≡ blank }
     {
         OpenLine {
-            before: Numbered::standard(),
-            here: Numbered::standard(),
+            place: Place::beginning(0, Numbered::standard()),
             ply: 0,
         }
     }
 
     // The beginning of a variation of the last move.
     fn variation(&self) -> OpenLine
+        requires room { self.now.place.depth < deepest }
         ensures varied { result ≡ varied self.now }
     {
         OpenLine {
-            before: self.before.copy(),
-            here: self.before.copy(),
+            place: self.place.variation(),
             ply: self.ply.saturating_sub(1),
-        }
-    }
-
-    // Plays the move that the bytes begin with, and gives it with how many bytes it takes.
-    fn play(&mut self, due: &[u8]) -> Result<(Move, u8), MoveFault>
-        requires room { self.old.ply + 1 < 2 ^ 32 }
-        ensures decodes { Decodes self.old.here due.now result }
-        ensures used { IfOk result (λ decoded. (0 < decoded.1) × (decoded.1 ≤ length due.now)) }
-        ensures played { IfOk result (λ decoded. IsPlayed self.old decoded.0 (drop decoded.1 due.now) self.new) }
-        ensures ply { IfErr result (λ _. self.new.ply ≡ self.old.ply) }
-    {
-        self.keep_before(due);
-        let played = self.here.advance(due)?;
-        self.ply += 1;
-        Ok(played)
-    }
-
-    // Keeps the position as the one before the next move, if a variation of that move may follow.
-    fn keep_before(&mut self, due: &[u8])
-        ensures here { self.new.here ≡ self.old.here }
-        ensures ply { self.new.ply ≡ self.old.ply }
-        ensures kept { (self.new.before ≡ self.old.here) ⊎ IsCalmBehind due.now }
-    {
-        if hangs_behind(due) {
-            self.before = self.here.copy();
-        }
-    }
-}
-
-// A place for an open line. A place that is not used yet costs next to nothing to make; it stands for the line of the
-// initial position.
-#[derive(Drop)]
-struct Kept {
-    line: Option<OpenLine>,
-}
-
-impl Model for Kept {
-    ghost use Rattle.std.specs.Prelude.{unwrap_or};
-    ghost use Rattle.game_codec.specs.declared.all_walk.OpenLine.{OpenLine as Line};
-    ghost use Rattle.game_codec.specs.Blank.{blank};
-
-    ghost Value = { Line };
-
-    ghost view = { λ k. unwrap_or k.line blank };
-}
-
-impl Default for Kept {
-    fn default() -> Kept {
-        Kept { line: None }
-    }
-}
-
-impl Kept {
-    // The place with this line.
-    fn of(line: OpenLine) -> Kept
-        ensures line { result ≡ line }
-    {
-        Kept { line: Some(line) }
-    }
-
-    // The line.
-    fn into_line(self) -> OpenLine
-        ensures line { result ≡ self }
-    {
-        match self.line {
-            Some(line) => line,
-            None => OpenLine::blank(),
         }
     }
 }
@@ -222,179 +196,96 @@ impl Kept {
 struct Lines<'a> {
     ahead: &'a [u8],
     line: OpenLine,
-    outer: ArrayVec<Kept, 200>,
-}
-
-// What stands at the front of the bytes: a move, the end of the game, or something between moves.
-#[derive(Debug, Drop)]
-enum Met {
-    Move(Move),
-    End,
-    Passed,
+    outer: &'a mut OuterLines,
 }
 
 impl<'a> Lines<'a> {
     // The beginning of the main line.
-    fn beginning(start: Numbered, ahead: &'a [u8]) -> Lines<'a>
+    fn beginning(start: Numbered, ahead: &'a [u8], outer: &'a mut OuterLines) -> Lines<'a>
         ensures ahead { result.ahead.now ≡ ahead.now }
-        ensures before { result.line.before ≡ start }
-        ensures here { result.line.here ≡ start }
+        ensures place { result.line.place ≡ beginning 0 start }
         ensures ply { result.line.ply ≡ 0 }
-        ensures alone { result.outer.items ≡ [] }
+        ensures alone { kept_in result.outer.now ≡ [] }
     {
+        outer.clear();
         Lines {
             ahead,
             line: OpenLine {
-                before: start.copy(),
-                here: start,
+                place: Place::beginning(0, start),
                 ply: 0,
             },
-            outer: ArrayVec::new(),
+            outer,
         }
     }
 
     // Plays the next move.
     fn next_move(&mut self) -> Result<Option<Move>, Breach>
-        requires bounded { IsBounded self.old }
+        requires sound { IsSound self.old }
         ensures gone { HasGone self.old result self.new }
     {
         loop {
             match self.meet() {
                 Err(breach) => return Err(breach),
-                Ok(Met::Move(m)) => return Ok(Some(m)),
-                Ok(Met::End) => return Ok(None),
-                Ok(Met::Passed) => {}
+                Ok(Item::Play(m)) => return Ok(Some(m)),
+                Ok(Item::End) => return Ok(None),
+                Ok(Item::Mark) => {}
             }
         }
     }
 
-    // Goes over the first item of the bytes.
-    fn meet(&mut self) -> Result<Met, Breach>
-        requires bounded { IsBounded self.old }
+    // Goes behind the first item of the bytes, unless that is the end of the game.
+    fn meet(&mut self) -> Result<Item, Breach>
+        requires sound { IsSound self.old }
         ensures met { HasMet self.old result self.new }
     {
         let ahead = self.ahead;
-        match ahead {
-            [] => Err(Breach {
-                left: 0,
-                what: RecordWhat::Short,
-            }),
-            [byte, behind @ ..] => self.meet_by(*byte, behind),
-        }
-    }
-
-    // Goes over the first item of the bytes, by its first byte and those behind it.
-    fn meet_by(&mut self, byte: u8, behind: &'a [u8]) -> Result<Met, Breach>
-        requires front { self.old.ahead.now ≡ byte ∷ behind.now }
-        requires bounded { IsBounded self.old }
-        ensures met { HasMet self.old result self.new }
-    {
-        match byte {
-            11 => self.nag(behind),
-            12 => Ok(self.pass(behind)),
-            13 => self.begin_variation(behind),
-            14 => self.end_variation(behind),
-            15 => self.end(behind),
-            _ => self.play(),
-        }
-    }
-
-    // A NAG, behind its mark.
-    fn nag(&mut self, behind: &'a [u8]) -> Result<Met, Breach>
-        requires front { self.old.ahead.now ≡ 11 ∷ behind.now }
-        requires bounded { IsBounded self.old }
-        ensures met { HasMet self.old result self.new }
-    {
-        if behind.is_empty() {
-            return Err(Breach {
-                left: 0,
-                what: RecordWhat::Short,
-            });
-        }
-        self.ahead = behind.split_at(1).1;
-        Ok(Met::Passed)
-    }
-
-    // The mark of a comment.
-    fn pass(&mut self, behind: &'a [u8]) -> Met
-        requires front { self.old.ahead.now ≡ 12 ∷ behind.now }
-        requires bounded { IsBounded self.old }
-        ensures met { HasMet self.old (Ok result) self.new }
-    {
-        self.ahead = behind;
-        Met::Passed
-    }
-
-    // The beginning of a variation.
-    fn begin_variation(&mut self, behind: &'a [u8]) -> Result<Met, Breach>
-        requires front { self.old.ahead.now ≡ 13 ∷ behind.now }
-        requires bounded { IsBounded self.old }
-        ensures met { HasMet self.old result self.new }
-    {
-        if self.outer.is_full() {
-            return Err(Breach {
-                left: behind.len() + 1,
-                what: RecordWhat::Depth,
-            });
-        }
-        let inner = self.line.variation();
-        let round = replace(&mut self.line, inner);
-        self.outer.push(Kept::of(round));
-        self.ahead = behind;
-        Ok(Met::Passed)
-    }
-
-    // The end of a variation.
-    fn end_variation(&mut self, behind: &'a [u8]) -> Result<Met, Breach>
-        requires front { self.old.ahead.now ≡ 14 ∷ behind.now }
-        requires bounded { IsBounded self.old }
-        ensures met { HasMet self.old result self.new }
-    {
-        match self.outer.pop() {
-            None => Err(Breach {
-                left: behind.len() + 1,
-                what: RecordWhat::Mark,
-            }),
-            Some(round) => {
-                self.line = round.into_line();
+        let next = match next_token(&mut self.line.place, ahead) {
+            Ok(next) => next,
+            Err(what) => {
+                return Err(Breach {
+                    left: ahead.len(),
+                    what,
+                });
+            }
+        };
+        let behind = ahead.split_at(next.used).1;
+        match next.token {
+            Token::Play(m) => {
                 self.ahead = behind;
-                Ok(Met::Passed)
+                self.line.ply += 1;
+                Ok(Item::Play(m))
             }
+            Token::Nag(_) => {
+                self.ahead = behind;
+                Ok(Item::Mark)
+            }
+            Token::Comment => {
+                self.ahead = behind;
+                Ok(Item::Mark)
+            }
+            Token::Open => {
+                self.ahead = behind;
+                self.begin_variation();
+                Ok(Item::Mark)
+            }
+            Token::Close => {
+                self.ahead = behind;
+                self.line = self.outer.pop();
+                Ok(Item::Mark)
+            }
+            Token::End => Ok(Item::End),
         }
     }
 
-    // The end of the game.
-    fn end(&mut self, behind: &[u8]) -> Result<Met, Breach>
-        requires front { self.old.ahead.now ≡ 15 ∷ behind.now }
-        requires bounded { IsBounded self.old }
-        ensures met { HasMet self.old result self.new }
+    // Begins a variation of the last move.
+    fn begin_variation(&mut self)
+        requires deep { self.old.line.place.depth < deepest }
+        requires room { length (kept_in self.old.outer.now) < 200 }
+        ensures ahead { self.new.ahead.now ≡ self.old.ahead.now }
+        ensures line { self.new.line ≡ varied self.old.line }
+        ensures outer { kept_in self.new.outer.now ≡ kept_in self.old.outer.now ++ self.old.line ∷ [] }
     {
-        if self.outer.is_empty() {
-            Ok(Met::End)
-        } else {
-            Err(Breach {
-                left: behind.len() + 1,
-                what: RecordWhat::Mark,
-            })
-        }
-    }
-
-    // A move of the innermost line.
-    fn play(&mut self) -> Result<Met, Breach>
-        requires due { IsMoveDue self.old.ahead.now }
-        requires bounded { IsBounded self.old }
-        ensures met { HasMet self.old result self.new }
-    {
-        let due = self.ahead;
-        match self.line.play(due) {
-            Err(fault) => Err(Breach {
-                left: due.len(),
-                what: RecordWhat::Move(fault),
-            }),
-            Ok((m, used)) => {
-                self.ahead = due.split_at(usize::from(used)).1;
-                Ok(Met::Move(m))
-            }
-        }
+        let inner = self.line.variation();
+        self.outer.push(replace(&mut self.line, inner));
     }
 }

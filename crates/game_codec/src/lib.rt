@@ -26,14 +26,14 @@ mod totals;
 mod visits;
 mod walk;
 
-pub use all_walk::AllWalk;
+pub use all_walk::{AllWalk, OuterLines};
 pub use checking::first_fault;
 pub use decoding::{Decoded, decode_game};
 pub use encoding::{Encoded, encode_game, encode_to_end};
 pub use event_date::event_date_in;
 pub use fault::{DecodeError, EncodeError, RecordFault, RecordWhat};
 pub use one_reading::bytes_have_one_reading;
-pub use reading::Reading;
+pub use reading::{MainPlace, Reading};
 pub use round_trip::written_records_are_read;
 pub use totals::Totals;
 pub use visits::all_moves_have_the_main_line;

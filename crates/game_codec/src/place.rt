@@ -1,14 +1,24 @@
 //! A place in a line of a record's moves, as it is while they are read.
-ghost use Rattle.std.specs.Prelude.{◌≡◌, ◌+◌, ◌<◌, ◌≤◌, ◌⊎◌, ◌↔◌, IsTrue, length, drop, IfOk, IfErr};
+ghost use Rattle.std.specs.Prelude.{◌≡◌, ◌+◌, ◌<◌, ◌≤◌, ◌⊎◌, ◌↔◌, ℕ, List, IsTrue, length, drop, IfOk, IfErr};
 ghost use Rattle.std.specs.Bool.{OnFalse, OnTrue};
+ghost use Rattle.game_tree.specs.Game.{GameTree};
 ghost use Rattle.game_tree.specs.Legal.{deepest};
+ghost use Rattle.game_tree.specs.declared.head.Tag.{Tag as TagValue};
+ghost use Rattle.game_codec.specs.Breach.{Tells};
+ghost use Rattle.game_codec.specs.Fault.{Breaks};
+ghost use Rattle.game_codec.specs.Record.{IsRecord};
+ghost use Rattle.game_codec.specs.Start.{BeginsStart};
+ghost use Rattle.game_codec.specs.TagReading.{BeginsTags};
+ghost use Rattle.game_codec.specs.Walking.{IsBehind};
 ghost use Rattle.game_codec.specs.Place.{beginning, variation_of, after_comment, FaultAt, IsMoveDue, Takes};
 ghost use Rattle.game_codec.specs.Nests.{Hangs, IsCalm, IsCalmBehind, IsKept, IsPast, token_of, with_before};
 ghost use Rattle.game_codec.specs.Token.{Play};
 
+use super::breach::Breach;
 use super::fault::RecordWhat;
 use super::token::Token;
 use super::tokens::NextToken;
+use super::walk::begin;
 use cell_core::Move;
 use chess_laws::Position;
 use move_codec::Numbered;
@@ -46,6 +56,23 @@ impl Place {
             has_move: false,
             has_comment: false,
         }
+    }
+
+    /// Goes to the beginning of the main line of a record, and gives how many of its bytes stand before the moves.
+    pub(crate) fn begin(&mut self, bytes: &[u8]) -> Result<usize, Breach>
+        ensures beginning { self.new ≡ beginning 0 self.new.here }
+        ensures begun { IfOk result (λ used. (tags : List TagValue) (game : GameTree) → IsRecord bytes.now tags game → IsBehind game self.new.here 0 (drop used bytes.now)) }
+        ensures used { IfOk result (λ used. used ≤ length bytes.now) }
+        ensures spelled { IfOk result (λ used. (tags : List TagValue) × ((behind : List ℕ) × (BeginsTags bytes.now tags behind × BeginsStart behind self.new.here (drop used bytes.now)))) }
+        ensures first { IfErr result (Tells (Breaks bytes.now)) }
+    {
+        self.here = Numbered::standard();
+        let used = begin(bytes, &mut self.here);
+        self.depth = 0;
+        self.before = self.here.copy();
+        self.has_move = false;
+        self.has_comment = false;
+        used
     }
 
     /// The beginning of a variation of the last move.
@@ -161,7 +188,7 @@ pub(crate) fn is_move_due(bytes: &[u8]) -> bool
 }
 
 // Whether a mark of what hangs on a move may follow the move that the bytes begin with, which takes one of them or two.
-pub(crate) fn hangs_behind(bytes: &[u8]) -> bool
+fn hangs_behind(bytes: &[u8]) -> bool
     ensures calm { OnFalse result (IsCalmBehind bytes.now) }
 {
     match bytes {

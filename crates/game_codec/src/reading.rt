@@ -20,11 +20,32 @@ use super::tally::Tally;
 use super::token::Token;
 use super::tokens::next_token;
 use super::totals::Totals;
-use super::walk::{begin, fault_at};
+use super::walk::fault_at;
 use cell_core::Move;
 use chess_laws::Position;
 use move_codec::Numbered;
 use std::marker::Model;
+
+/// The place of a main line, which the readings of records use one after the other.
+#[derive(Drop)]
+pub struct MainPlace {
+    place: Place,
+}
+
+impl Model for MainPlace {
+    ghost Value = { Unit {0} };
+
+    ghost view = { λ _. tt };
+}
+
+impl MainPlace {
+    /// A place that no reading has used.
+    pub fn new() -> MainPlace {
+        MainPlace {
+            place: Place::beginning(0, Numbered::standard()),
+        }
+    }
+}
 
 /// A reading of a record that goes from one move of the main line to the next and checks all that stands between them.
 /// It tells each fault that the bytes have, and at the end what all lines have. It takes no memory and makes no tree.
@@ -42,27 +63,27 @@ impl<'a> Model for Reading<'a> {
 
     ghost use Rattle.game_codec.specs.Reading.{IsReading};
 
-    ghost view = { λ r. record { bytes = r.bytes.now; ply = r.ply; position = r.at.place.here.position } };
+    ghost view = { λ r. record { bytes = r.bytes.now; ply = r.ply; position = r.at.place.now.here.position } };
 
     ghost invariant = { λ r. IsReading r.bytes.now r.at r.ply };
 }
 
 impl<'a> Reading<'a> {
     /// The reading at the start of a record's main line, behind its tags and its start. A record has fewer than 2^32 bytes. The fault
-    /// is the first of the bytes.
-    pub fn new(bytes: &'a [u8]) -> Result<Reading<'a>, RecordFault>
+    /// is the first of the bytes. What the place was used for before does not matter.
+    pub fn new(bytes: &'a [u8], main: &'a mut MainPlace) -> Result<Reading<'a>, RecordFault>
         requires few { length bytes.now < 2 ^ 32 }
         ensures bytes { IfOk result (λ reading. reading.bytes ≡ bytes.now) }
         ensures start { IfOk result (λ reading. reading.ply ≡ 0) }
         ensures fault { IfErr result (IsRecordFault bytes.now) }
     {
-        let mut start = Numbered::standard();
-        match begin(bytes, &mut start) {
+        let place = &mut main.place;
+        match place.begin(bytes) {
             Ok(used) => Ok(Reading {
                 bytes,
                 at: At {
                     rest: bytes.split_at(used).1,
-                    place: Place::beginning(0, start),
+                    place,
                     tally: Tally::new(),
                 },
                 ply: 0,
@@ -129,14 +150,14 @@ impl<'a> Reading<'a> {
 // A place of a main line, the bytes from there on, and what was met before.
 #[derive(Drop)]
 struct At<'a> {
-    place: Place,
+    place: &'a mut Place,
     rest: &'a [u8],
     tally: Tally,
 }
 
 // One item of a main line.
 #[derive(Drop)]
-enum Item {
+pub(crate) enum Item {
     // A NAG, a comment, or a whole variation.
     Mark,
     Play(Move),
@@ -147,7 +168,7 @@ enum Item {
 impl<'a> At<'a> {
     // Goes to the end of the record, and gives what all lines have.
     fn totals(&mut self) -> Result<Totals, Breach>
-        requires main { self.old.place.depth ≡ 0 }
+        requires main { self.old.place.now.depth ≡ 0 }
         requires room { size_of self.old.tally + length self.old.rest.now ≤ usize.MAX }
         ensures finishes { IfOk result (Finishes self.old) }
         ensures fault { IfErr result (BreaksRecord self.old) }
@@ -165,7 +186,7 @@ impl<'a> At<'a> {
 
     // Goes to the end of the main line.
     fn to_end(&mut self) -> Result<(), Breach>
-        requires main { self.old.place.depth ≡ 0 }
+        requires main { self.old.place.now.depth ≡ 0 }
         requires room { size_of self.old.tally + length self.old.rest.now ≤ usize.MAX }
         ensures end { OnOk result (Reads self.old self.new × Ends self.new) }
         ensures fault { IfErr result (BreaksLine self.old) }
@@ -180,7 +201,7 @@ impl<'a> At<'a> {
 
     // Goes behind the next move of the main line, or to its end.
     fn next(&mut self) -> Result<Option<Move>, Breach>
-        requires main { self.old.place.depth ≡ 0 }
+        requires main { self.old.place.now.depth ≡ 0 }
         requires room { size_of self.old.tally + length self.old.rest.now ≤ usize.MAX }
         ensures next { IfOk result (λ found. MatchOption found (Passes self.old self.new × Ends self.new) (λ m. Plays self.old m self.new)) }
         ensures fault { IfErr result (BreaksLine self.old) }
@@ -198,7 +219,7 @@ impl<'a> At<'a> {
     // Goes behind the next item of the main line, unless that is its end. Most items are moves.
     #[inline(always)]
     fn item(&mut self) -> Result<Item, Breach>
-        requires main { self.old.place.depth ≡ 0 }
+        requires main { self.old.place.now.depth ≡ 0 }
         requires room { size_of self.old.tally + length self.old.rest.now ≤ usize.MAX }
         ensures does { IfOk result (λ item. Does self.old item self.new) }
         ensures fault { IfErr result (BreaksLine self.old) }
@@ -234,13 +255,13 @@ impl<'a> At<'a> {
     // The same for any item.
     #[inline(never)]
     fn other_item(&mut self) -> Result<Item, Breach>
-        requires main { self.old.place.depth ≡ 0 }
+        requires main { self.old.place.now.depth ≡ 0 }
         requires room { size_of self.old.tally + length self.old.rest.now ≤ usize.MAX }
         ensures does { IfOk result (λ item. Does self.old item self.new) }
         ensures fault { IfErr result (BreaksLine self.old) }
         ensures passes { IfErr result (λ _. Passes self.old self.new) }
     {
-        let next = match next_token(&mut self.place, self.rest) {
+        let next = match next_token(self.place, self.rest) {
             Ok(next) => next,
             Err(what) => {
                 return Err(Breach {
@@ -276,9 +297,9 @@ impl<'a> At<'a> {
 
     // Goes behind a variation, which begins behind its mark. Its mark is counted in `met`.
     fn variation(&mut self, behind: &'a [u8], met: Tally) -> Result<Item, Breach>
-        requires main { self.old.place.depth ≡ 0 }
+        requires main { self.old.place.now.depth ≡ 0 }
         requires room { size_of self.old.tally + length self.old.rest.now ≤ usize.MAX }
-        requires takes { Takes self.old.place self.old.rest.now Open behind.now }
+        requires takes { Takes self.old.place.now self.old.rest.now Open behind.now }
         requires met { met ≡ added self.old.tally Open }
         ensures does { IfOk result (λ item. Does self.old item self.new) }
         ensures fault { IfErr result (BreaksLine self.old) }

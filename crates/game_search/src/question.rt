@@ -27,8 +27,9 @@ pub trait Question {
 
     /// The first matching ply of the game of a record, if it has one and this is its signature. Bytes that give a fault
     /// are no record.
-    fn in_record(&self, record: &[u8], sig: &Brief<'_>) -> Result<Option<u32>, RecordFault>
+    fn in_record(&mut self, record: &[u8], sig: &Brief<'_>) -> Result<Option<u32>, RecordFault>
         requires short { length record.now ≤ 131071 }
-        ensures first { IfOk result (λ ply. (tags : List Tag) (game : GameTree) → IsRecord record.now tags game → IsSig game sig.now → ply ≡ first self.now game) }
+        ensures same { self.new ≡ self.old }
+        ensures first { IfOk result (λ ply. (tags : List Tag) (game : GameTree) → IsRecord record.now tags game → IsSig game sig.now → ply ≡ first self.old game) }
         ensures fault { OnErr result (IsSomeRecord record.now → ⊥) };
 }

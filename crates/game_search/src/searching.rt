@@ -126,14 +126,15 @@ fn first_in<Q: Question, G: Games, F: Files>(
 fn first_read<Q: Question, G: Games, F: Files>(
     games: &G,
     i: u32,
-    q: &Q,
+    q: &mut Q,
     files: &mut F,
     buf: &mut [u8],
 ) -> Result<Option<u32>, FetchError>
     requires game { i < length (G.sigs games.now) }
     requires room { 131072 ≤ length buf.old }
     requires within { AreWithin (F.seen files.old).known (G.extents games.now) }
-    ensures first { (told : List ℕ) (list : List GameTree) (game : GameTree) → (F.seen files.old).games ≡ Some told → Holds told (G.extents games.now) (G.sigs games.now) list → slice_get list i ≡ Some game → IfOk result (λ ply. ply ≡ Q.first q.now game) }
+    ensures first { (told : List ℕ) (list : List GameTree) (game : GameTree) → (F.seen files.old).games ≡ Some told → Holds told (G.extents games.now) (G.sigs games.now) list → slice_get list i ≡ Some game → IfOk result (λ ply. ply ≡ Q.first q.old game) }
+    ensures same { q.new ≡ q.old }
     ensures unchanged { F.seen files.new ≡ F.seen files.old }
     ensures asks { F.asked files.new ≤ F.asked files.old + (extent_in (G.extents games.now) i).len }
     ensures asked { OnOk result (raised (F.asked files.old) (extent_in (G.extents games.now) i).len ≤ F.asked files.new) }

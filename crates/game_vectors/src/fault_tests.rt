@@ -3,7 +3,7 @@ use super::one_game::one_game;
 use base_files::Swap;
 use cell_core::Colour;
 use chess_text::read_board;
-use game_codec::{AllWalk, RecordFault, RecordWhat, Walk};
+use game_codec::{AllWalk, OuterLines, RecordFault, RecordWhat, Walk};
 use move_codec::MoveFault;
 use pos_search::{Mode, PosQuery, first_match, hit};
 use sig_index::FetchError;
@@ -53,7 +53,8 @@ fn met(bytes: &'static [u8]) -> Result<Option<RecordFault>, Fail> {
 
 // What a walk along all lines meets.
 fn met_in_lines(bytes: &'static [u8]) -> Result<Option<RecordFault>, Fail> {
-    let mut walk = AllWalk::new(bytes.split_at(bytes.len().min(100)).0)?;
+    let mut outer = OuterLines::new();
+    let mut walk = AllWalk::new(bytes.split_at(bytes.len().min(100)).0, &mut outer)?;
     for _ in 0..100u32 {
         match walk.step() {
             Ok(Some(_)) => {}

@@ -4,6 +4,7 @@ use Rattle.std.specs.Prelude.{if◌then◌else◌, IfErr, IfOk}
 use Rattle.base_files.proofs.Telling.{adds-nil}
 use Rattle.base_files.specs.Seen.{Seen}
 use Rattle.base_files.specs.Told.{adds}
+use Rattle.base_files.specs.declared.faults.Stop.TheVariants as stop
 use Rattle.command_runs.proofs.Joining.{written_after, halted_all, halted_more, halted_unsure}
 use Rattle.command_runs.proofs.Running.{Did, after_all-append, run-append, stopped_begins, stops}
 use Rattle.command_runs.specs.Endings.{Done, Halted, Cut, Serves}
@@ -18,11 +19,12 @@ use Rattle.pgn_read.specs.Text.{At}
 use Rattle.pgn_read.specs.declared.item.Item.{Item}
 use Rattle.pgn_read.specs.declared.item.Item.TheVariants.{Bad, Good}
 use mir.Val.{bool_byte}
+use Rattle.intake_commands.specs.Breaking.{TakesFirst, TookFirst}
 use Rattle.intake_commands.specs.Importing.{intake, next_number, none_taken, Intake, item_after, item_text, one_refused}
 use Rattle.intake_commands.proofs.ByCase.{unless_not_added}
 use Rattle.intake_commands.specs.Intakes.{AreBehind, TookIn, Counted, IsIntake, TookNext, TakesIn}
 use Rattle.shell_state.proofs.Causing.{fault_of_output}
-use Rattle.shell_state.specs.Ends.{IsFault, IsBodyFault, IsDevice, IsOutput}
+use Rattle.shell_state.specs.Ends.{IsFault, IsBodyFault, IsDevice, IsOutput, Unsaid}
 use Rattle.shell_state.specs.Refusing.{not_added}
 use Rattle.shell_state.specs.Stands.{Holding, Stands}
 use Rattle.shell_state.specs.State.{State}
@@ -146,6 +148,32 @@ took_short holding seen s text ahead told told' added refused took =
     let halted = halted_unsure front front told told' (halted_all front told told' took.written) in
     subst (λ (x : List ℕ). Halted [] x told told') whole (halted_more [] front (run intake (after_all intake (none_taken s) took.done) rest.0) told told' halted)
 
+-- So far the first items were taken in.
+pub took_first : (holding : Holding) (seen : Seen) (s : State) (text : List ℕ) (ahead : Option At) (told told' : Option (List ℕ)) (added refused : ℕ)
+    → TookIn holding seen s text ahead told told' added refused → TookFirst holding s (items_of text) told told'
+took_first holding seen s text ahead told told' added refused took =
+    let rest = behind_some text ahead took.done took.behind in
+    record { done = took.done; left = rest.0; all = rest.1; seen = seen; stands = took.stands.stands; written = took.written }
+
+pub first_read : (e : Halt) (holding : Holding) (s : State) (items : List Item) (told told' : Option (List ℕ)) → IsBodyFault e → TookFirst holding s items told told' → TakesFirst holding s items told told' e
+first_read (halt.Device stop.Read) holding s items told told' fault first = first
+first_read (halt.Device stop.Files) holding s items told told' fault first = first
+first_read (halt.Device stop.Write) holding s items told told' fault first = tt
+first_read (halt.Device stop.Memory) holding s items told told' fault first = tt
+first_read (halt.Changed game kept found) holding s items told told' fault first = absurd fault
+
+-- The files failed at the next one, which is not taken in then.
+pub first_added : (e : Halt) (holding holding' : Holding) (s : State) (items : List Item) (told told' told'' : Option (List ℕ)) → IsFault e → (e ≡ halt.Device stop.Files → holding' ≡ holding) → Unsaid e told' told''
+    → TookFirst holding s items told told' → TakesFirst holding' s items told told'' e
+first_added (halt.Device stop.Files) holding holding' s items told told' told'' fault kept unsaid first =
+    let P : Holding → Type 0 = λ h. TookFirst h s items told told'' in
+    let Q : Option (List ℕ) → Type 0 = λ t. TookFirst holding s items told t in
+    subst P (sym (kept refl)) (subst Q (sym (unsaid refl)) first)
+first_added (halt.Device stop.Write) holding holding' s items told told' told'' fault kept unsaid first = tt
+first_added (halt.Device stop.Memory) holding holding' s items told told' told'' fault kept unsaid first = tt
+first_added (halt.Device stop.Read) holding holding' s items told told' told'' fault kept unsaid first = absurd fault
+first_added (halt.Changed game was found) holding holding' s items told told' told'' fault kept unsaid first = absurd fault
+
 -- The next one was broken off.
 pub took_cut : (holding : Holding) (seen : Seen) (s : State) (text : List ℕ) (ahead ahead' : Option At) (told told' told'' : Option (List ℕ)) (added refused : ℕ) (item : Item) (e : Halt)
     → (took : TookIn holding seen s text ahead told told' added refused) → Follows ahead (Some item) ahead'
@@ -175,7 +203,7 @@ refused_counts i = record { added = omega arith; refused = refl }
 -- Of an item that was taken in the line was written, or was broken off.
 pub item_written : (r : Result Bool Halt) (holding : Holding) (seen : Seen) (i : Intake) (item : Item) (line : List ℕ) (told told' : Option (List ℕ))
     → Stands holding seen (item_after i item).state → line ≡ item_text i item → OnOk r (told' ≡ adds told line) → Halted [] line told told' → IfErr r IsOutput
-    → Serves intake (λ (later : Intake). Stands holding seen later.state) (λ (before : Intake) (one : Item). IsFault) i item told told' r
+    → Serves intake (λ (later : Intake). Stands holding seen later.state) (λ (before : Intake) (one : Item) (end : Halt) (text : List ℕ) (first last : Option (List ℕ)). IsFault end) i item told told' r
 item_written (Ok flag) holding seen i item line told told' stands is written halted output =
     record { stands = stands; written = written ∙ ap (λ (l : List ℕ). adds told l) is }
 item_written (Err e) holding seen i item line told told' stands is written halted output =

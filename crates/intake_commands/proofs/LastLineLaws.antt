@@ -36,10 +36,10 @@ none_halted Stands state text line told told' told'' but same =
 
 -- The caller broke off in the line, by the output or by memory.
 pub line_cut : (Stands : State → Type 0) (s : State) (work : Work) (line given : List ℕ) (told told' told'' : Option (List ℕ)) (e : Halt)
-    → DoneBut Stands (work.after s) (work.text s) line told told' → given ≡ line → Halted [] given told' told'' → IsOutput e → Cut (Broken s work e) (work.text s) told told''
+    → DoneBut Stands (work.after s) (work.text s) line told told' → given ≡ line → Halted [] given told' told'' → IsOutput e → Cut (Broken s work e (work.text s) told told'') (work.text s) told told''
 line_cut Stands s work line given told told' told'' e but same halted output =
     let P : List ℕ → Type 0 = λ l. Halted [] l told' told'' in
-    record { wrote = last_halted Stands (work.after s) (work.text s) line told told' told'' but (subst P same halted); broken = broken_by_output s work e output }
+    record { wrote = last_halted Stands (work.after s) (work.text s) line told told' told'' but (subst P same halted); broken = broken_by_output s work e output (work.text s) told told'' }
 
 -- It wrote the line, or broke off in it.
 pub line_served : {A : Type 0} (r : Result A Halt) (Stands Later : State → Type 0) (s : State) (work : Work) (line given : List ℕ) (told told' told'' : Option (List ℕ))
@@ -52,9 +52,9 @@ line_served (Err e) Stands Later s work line given told told' told'' but same st
 
 -- It ended early before the line, of which nothing was written.
 pub line_unwritten : (Stands : State → Type 0) (s : State) (work : Work) (line : List ℕ) (told told' told'' : Option (List ℕ)) (e : Halt)
-    → DoneBut Stands (work.after s) (work.text s) line told told' → told'' ≡ told' → IsOutput e → Cut (Broken s work e) (work.text s) told told''
+    → DoneBut Stands (work.after s) (work.text s) line told told' → told'' ≡ told' → IsOutput e → Cut (Broken s work e (work.text s) told told'') (work.text s) told told''
 line_unwritten Stands s work line told told' told'' e but same output =
-    record { wrote = none_halted Stands (work.after s) (work.text s) line told told' told'' but same; broken = broken_by_output s work e output }
+    record { wrote = none_halted Stands (work.after s) (work.text s) line told told' told'' but same; broken = broken_by_output s work e output (work.text s) told told'' }
 
 pub line_short : {A : Type 0} (r : Result A Halt) (Stands Later : State → Type 0) (s : State) (work : Work) (line : List ℕ) (told told' told'' : Option (List ℕ)) → r ≡ Err (halt.Device stop.Memory)
     → DoneBut Stands (work.after s) (work.text s) line told told' → told'' ≡ told' → Serves works Later Broken s work told told'' r

@@ -13,6 +13,7 @@ use Rattle.command_runs.specs.Counts.{Causes, counts}
 use Rattle.command_runs.specs.Endings.{Halted, NoneLost}
 use Rattle.command_runs.specs.Plain.{run}
 use Rattle.pgn_read.specs.declared.item.Item.{Item}
+use Rattle.intake_commands.specs.Breaking.{TakesFirst}
 use Rattle.intake_commands.specs.Importing.{intake, none_taken}
 use Rattle.intake_commands.specs.Intakes.{TakesIn}
 use Rattle.intake_commands.specs.Paging.{Paging, Start, is_output, start_at}
@@ -116,6 +117,13 @@ body_output : (e : Halt) → IsOutput e → IsBodyFault e
 body_output (halt.Device s) output = tt
 body_output (halt.Changed game kept found) output = absurd output
 
+first_output : (e : Halt) (holding : Holding) (s : State) (items : List Item) (told told' : Option (List ℕ)) → IsOutput e → TakesFirst holding s items told told' e
+first_output (halt.Device stop.Write) holding s items told told' output = tt
+first_output (halt.Device stop.Memory) holding s items told told' output = tt
+first_output (halt.Device stop.Read) holding s items told told' output = absurd output
+first_output (halt.Device stop.Files) holding s items told told' output = absurd output
+first_output (halt.Changed game kept found) holding s items told told' output = absurd output
+
 -- The page was not, or in part.
 pub page_unwritten : (r : Result (ℕ × ℕ) Halt) (e : Halt) (holding : Holding) (seen : Seen) (s : State) (items : List Item) (told told' waits : Option (List ℕ)) (page page' : List ℕ) → page ≡ [] → TakesIn holding seen s items (adds told page) waits r
     → adds told' page' ≡ waits → NoneLost told told' → IsOutput e → TakesIn holding seen s items told told' (Err e)
@@ -126,4 +134,4 @@ page_unwritten r e holding seen s items told told' waits page page' none takes k
     let Q : Option (List ℕ) → Type 0 = λ t. Grew told' t in
     let within : Grew told' (adds told lines) =
     Grew-trans told' waits (adds told lines) (subst Q kept (Grew-adds told' page')) (lines_within r holding seen s items told waits (subst P first takes)) in
-    (halted_by lines told told' (lost told (Grew-refl told)) within, body_output e output)
+    (halted_by lines told told' (lost told (Grew-refl told)) within, body_output e output, first_output e holding s items told told' output)

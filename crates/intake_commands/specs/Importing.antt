@@ -123,7 +123,7 @@ line_with game (Err line) = line
 
 -- What the two do with a body.
 abbrev pub import_work : List ℕ → Work
-import_work body = record (writing (λ s. (taken_in s body).state) (λ s. import_text s body) (by_looks (λ looks plies. 0))) { body = true }
+import_work body = record (writing (λ s. (taken_in s body).state) (λ s. import_text s body) (by_looks (λ looks plies. 0))) { early = true; body = true }
 
 abbrev pub replace_work : ℕ → List ℕ → Work
 replace_work game body =

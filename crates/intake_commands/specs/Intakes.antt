@@ -9,6 +9,7 @@ use Rattle.pgn_read.specs.Items.{AreItems, items_of}
 use Rattle.pgn_read.specs.Text.{At}
 use Rattle.pgn_read.specs.declared.item.Item.{Item}
 use Rattle.pgn_read.specs.declared.item.Item.TheVariants.{Good}
+use Rattle.intake_commands.specs.Breaking.{TakesFirst}
 use Rattle.intake_commands.specs.Importing.{Intake, intake, item_line, none_taken, first_faulty, faulty_line}
 use Rattle.intake_commands.specs.declared.replacing.Only.{Only}
 use Rattle.intake_commands.specs.declared.replacing.Only.TheVariants as only
@@ -37,7 +38,8 @@ pub record IsIntake (holding : Holding) (seen : Seen) (good bad : ℕ) (i : Inta
 -- All items of a text were taken in, and these are the counts; or a front part of their lines was written.
 abbrev pub TakesIn : Holding → Seen → State → List Item → Option (List ℕ) → Option (List ℕ) → Result (ℕ × ℕ) Halt → Type 0
 TakesIn holding seen s items told told' (Ok given) = Done (IsIntake holding seen given.0 given.1) (after_all intake (none_taken s) items) (run intake (none_taken s) items) told told'
-TakesIn holding seen s items told told' (Err e) = Halted [] (run intake (none_taken s) items) told told' × IsBodyFault e
+TakesIn holding seen s items told told' (Err e) =
+    Halted [] (run intake (none_taken s) items) told told' × IsBodyFault e × TakesFirst holding s items told told' e
 
 -- What stands ahead of a reader of a text: some of its items are read, and the others are still there.
 pub record AreBehind (text : List ℕ) (ahead : Option At) (done : List Item) : Type 0 where
@@ -76,7 +78,8 @@ TookNext holding seen s text ahead told told' added refused (Ok (Some flag)) =
     TookIn holding seen s text ahead told told' (added + (if flag then 1 else 0)) (refused + (if flag then 0 else 1))
 TookNext holding seen s text ahead told told' added refused (Ok None) =
     Done (IsIntake holding seen added refused) (after_all intake (none_taken s) (items_of text)) (run intake (none_taken s) (items_of text)) told told'
-TookNext holding seen s text ahead told told' added refused (Err e) = Halted [] (run intake (none_taken s) (items_of text)) told told' × IsBodyFault e
+TookNext holding seen s text ahead told told' added refused (Err e) =
+    Halted [] (run intake (none_taken s) (items_of text)) told told' × IsBodyFault e × TakesFirst holding s (items_of text) told told' e
 
 -- The machine stands for a later state of the same script, beside files that carry the same.
 pub record StandsLater (holding : Holding) (seen : Seen) (s : State) : Type 0 where

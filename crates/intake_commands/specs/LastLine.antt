@@ -14,6 +14,6 @@ pub record DoneBut {S : Type 0} (Stands : S → Type 0) (state : S) (text line :
 
 -- What such a command owes a state: the state after it stands and its text is written but for the line that it gives, or it was broken off by
 -- this error.
-abbrev pub ServesBut : {S C E : Type 0} → Plain S C → (S → Type 0) → (S → C → E → Type 0) → S → C → Option (List ℕ) → Option (List ℕ) → Result (Vec ℕ) E → Type 0
+abbrev pub ServesBut : {S C E : Type 0} → Plain S C → (S → Type 0) → (S → C → E → List ℕ → Option (List ℕ) → Option (List ℕ) → Type 0) → S → C → Option (List ℕ) → Option (List ℕ) → Result (Vec ℕ) E → Type 0
 ServesBut m Stands Broken s c before after (Ok line) = DoneBut Stands (m.after s c) (m.text s c) line.items before after
-ServesBut m Stands Broken s c before after (Err e) = Cut (Broken s c e) (m.text s c) before after
+ServesBut m Stands Broken s c before after (Err e) = Cut (Broken s c e (m.text s c) before after) (m.text s c) before after

@@ -1,3 +1,4 @@
+pub mod Breaking
 pub mod Ends
 pub mod Importing
 pub mod Intakes

@@ -1,21 +1,24 @@
 //! The command that takes the games of a body in.
 ghost use Rattle.std.specs.Prelude.{◌≡◌, ◌<◌, ℕ, ◌+◌, [], List, Option, None, Some, Ok, IfOk, IfErr, OnOk};
 ghost use Rattle.base_files.specs.Told.{adds};
+ghost use Rattle.base_files.specs.declared.faults.Stop.TheVariants as stop;
 ghost use Rattle.command_runs.specs.Counts.{Causes, counts};
 ghost use Rattle.command_runs.specs.Endings.{Halted, NoneLost, Serves};
 ghost use Rattle.pgn_read.specs.Fit.{IsFit, IsFitGame};
 ghost use Rattle.pgn_read.specs.Items.{items_of};
 ghost use Rattle.pgn_read.specs.Readers.{told};
 ghost use Rattle.pgn_read.specs.declared.item.Item.TheVariants as item;
+ghost use Rattle.intake_commands.specs.Breaking.{TakesFirst};
 ghost use Rattle.intake_commands.specs.Ends.{unread_halt};
 ghost use Rattle.intake_commands.specs.Importing.{Intake, intake, item_after, item_text, next_number, import_work};
 ghost use Rattle.intake_commands.specs.Intakes.{Counted, StandsLater, TakesIn, TookIn, TookNext};
 ghost use Rattle.intake_commands.specs.LastLine.{ServesBut};
 ghost use Rattle.shell_state.specs.Carrying.{StillCarry};
-ghost use Rattle.shell_state.specs.Ends.{IsDevice, IsFault, IsOutput};
+ghost use Rattle.shell_state.specs.Ends.{IsDevice, IsFault, IsOutput, Unsaid};
 ghost use Rattle.shell_state.specs.Stands.{Stands, Sound, WhyHalt, Broken};
 ghost use Rattle.shell_state.specs.State.{State};
 ghost use Rattle.shell_state.specs.Work.{works};
+ghost use Rattle.shell_state.specs.declared.halt.Halt.TheVariants as halt;
 
 use crate::item_lines::{faulty_line, imported_line, not_added_line};
 use crate::paging::next_behind;
@@ -35,6 +38,8 @@ pub fn import<F: Files, B: Source, K: Sink>(
 ) -> Result<Vec<u8>, Halt>
     requires sound { Sound machine.old (F.seen files.old) }
     ensures serves { (s : State) (text : List ℕ) → Stands machine.old (F.seen files.old) s → B.left body.old ≡ Some text → ServesBut works (Stands machine.new (F.seen files.new)) Broken s (import_work text) (K.taken out.old) (K.taken out.new) result }
+    // If the input or the files break it off, the lines of the items that were taken in are written, whole.
+    ensures first { (s : State) (text : List ℕ) → Stands machine.old (F.seen files.old) s → B.left body.old ≡ Some text → IfErr result (TakesFirst machine.new s (items_of text) (K.taken out.old) (K.taken out.new)) }
     ensures sound { OnOk result (Sound machine.new (F.seen files.new)) }
     ensures carries { (s : State) → Stands machine.old (F.seen files.old) s → StillCarry (F.seen files.new) s None }
     ensures choices { (F.seen files.new).choices ≡ (F.seen files.old).choices }
@@ -179,8 +184,10 @@ fn take_item<F: Files, K: Sink>(
 ) -> Result<bool, Halt>
     requires fit { IsFit item.now }
     requires sound { Sound machine.old (F.seen files.old) }
-    ensures serves { (i : Intake) → Stands machine.old (F.seen files.old) i.state → next_number i ≡ number → Serves intake (λ later. Stands machine.new (F.seen files.new) later.state) (λ _ _. IsFault) i item.now (adds (K.taken out.old) page.old.items) (adds (K.taken out.new) page.new.items) result }
+    ensures serves { (i : Intake) → Stands machine.old (F.seen files.old) i.state → next_number i ≡ number → Serves intake (λ later. Stands machine.new (F.seen files.new) later.state) (λ _ _ e _ _ _. IsFault e) i item.now (adds (K.taken out.old) page.old.items) (adds (K.taken out.new) page.new.items) result }
     ensures counted { (i : Intake) → Stands machine.old (F.seen files.old) i.state → IfOk result (λ added. Counted added i (item_after i item.now)) }
+    ensures unsaid { IfErr result (λ e. Unsaid e (adds (K.taken out.old) page.old.items) (adds (K.taken out.new) page.new.items)) }
+    ensures kept { IfErr result (λ e. e ≡ halt.Device stop.Files → machine.new ≡ machine.old) }
     ensures sound { OnOk result (Sound machine.new (F.seen files.new)) }
     ensures carries { (s : State) → Stands machine.old (F.seen files.old) s → StillCarry (F.seen files.new) s None }
     ensures choices { (F.seen files.new).choices ≡ (F.seen files.old).choices }
@@ -229,6 +236,7 @@ fn add_item<F: Files>(
     ensures stands { (i : Intake) → Stands machine.old (F.seen files.old) i.state → OnOk result (Stands machine.new (F.seen files.new) (item_after i item.now).state) }
     ensures counted { (i : Intake) → Stands machine.old (F.seen files.old) i.state → IfOk result (λ given. Counted given.1 i (item_after i item.now)) }
     ensures devices { IfErr result IsDevice }
+    ensures kept { IfErr result (λ e. e ≡ halt.Device stop.Files → machine.new ≡ machine.old) }
     ensures sound { OnOk result (Sound machine.new (F.seen files.new)) }
     ensures carries { (s : State) → Stands machine.old (F.seen files.old) s → StillCarry (F.seen files.new) s None }
     ensures choices { (F.seen files.new).choices ≡ (F.seen files.old).choices }
@@ -259,6 +267,7 @@ fn add_game<F: Files>(
     ensures stands { (i : Intake) → Stands machine.old (F.seen files.old) i.state → OnOk result (Stands machine.new (F.seen files.new) (item_after i (item.Good head.now game.now)).state) }
     ensures counted { (i : Intake) → Stands machine.old (F.seen files.old) i.state → IfOk result (λ given. Counted given.1 i (item_after i (item.Good head.now game.now))) }
     ensures devices { IfErr result IsDevice }
+    ensures kept { IfErr result (λ e. e ≡ halt.Device stop.Files → machine.new ≡ machine.old) }
     ensures sound { OnOk result (Sound machine.new (F.seen files.new)) }
     ensures carries { (s : State) → Stands machine.old (F.seen files.old) s → StillCarry (F.seen files.new) s None }
     ensures choices { (F.seen files.new).choices ≡ (F.seen files.old).choices }

@@ -50,7 +50,7 @@ impl<'a> Question for Counts<'a> {
         }
     }
 
-    fn in_record(&self, record: &[u8], _sig: &Brief<'_>) -> Result<Option<u32>, RecordFault> {
+    fn in_record(&mut self, record: &[u8], _sig: &Brief<'_>) -> Result<Option<u32>, RecordFault> {
         first_ply(record, self.query)
     }
 }

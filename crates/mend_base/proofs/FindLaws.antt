@@ -99,7 +99,7 @@ keeps_it names file bytes e kept mended same within rule =
     let held : Held = held_by names e (signed.tags, signed.tree) in
     let K : Entry → Type 0 = λ x. Keeps names file x held in
     let says : Says names file (kept_entry e mended.0 mended.1.0) held =
-    record { tags = signed.tags; within = within; read = ap record_answer same ∙ signed.read.answer; head = sym (settled_kept names e mended.0 mended.1.0 signed.tags rule (signed.dated names)); len = refl } in
+    record { tags = signed.tags; within = within; read = record { answer = ap record_answer same ∙ signed.read.answer }; head = sym (settled_kept names e mended.0 mended.1.0 signed.tags rule (signed.dated names)); len = refl } in
     subst K (sym mended.1.1.1) (record { says = says; event_date = signed.dated names; signed = signed.signed })
 
 rule_of : (bytes : List ℕ) (e : Entry) → e ≡ known_in bytes → IsTrue (keeps_rule e.event_date e.date)

@@ -91,7 +91,7 @@ place_whole way names games game bytes held below few is passes =
     let same_as_it : Option Change → Place = λ c. Ok (record { held = held; change = c }) in
     let place : Entry → Place = λ x. Ok (record { held = held_by (filled_names parts) x (tags, held.game); change = change_in way parts game bytes }) in
     read-place way parts games game bytes tags held.game (subst (λ (x : Entry). place_fault (length games) x ≡ None) (same ∙ sym known) check.placed)
-    (subst (λ (x : Entry). record_answer (record_in games (extent_of x)) ≡ Ok (tags, held.game)) (sym known) is.says.read)
+    (subst (λ (x : Entry). record_answer (record_in games (extent_of x)) ≡ Ok (tags, held.game)) (sym known) is.says.read.answer)
     ∙ (ap place known ∙ (ap (λ (h : Held). Ok (record { held = h; change = change_in way parts game bytes })) here ∙ ap same_as_it (no_change way names few game bytes e below has is.read)))
 
 module _ (way : Way) (index names games : List ℕ) (base : Base) (all_known_here : way.known ≡ entries_found index) (means : Means index names games base) (passes : (i : ℕ) → i < base.header.games → Passes false base.names games i (entry_bytes index i)) where

@@ -31,6 +31,10 @@ pub record Reading : Type 0 where
   pub turn : Turn
   pub outer : List Turn
 
+-- The type of a place in a line, as laws of other crates name it.
+abbrev pub LineTurn : Type 0
+LineTurn = Turn
+
 abbrev pub turn_at : Setup → Turn
 turn_at p = record { before = p; now_at = p }
 

@@ -23,7 +23,6 @@ mod window;
 pub use error::PgnError;
 pub use item::{GameFault, GameWhat, Item};
 pub use laws::{
-    good_games_mean_their_movetext, items_are_read_one_by_one, spelled_movetexts_are_read,
-    spelled_tags_are_read, texts_have_one_list_of_items, written_games_are_read_again,
+    good_games_mean_their_movetext, items_are_read_one_by_one, texts_have_one_list_of_items,
 };
 pub use reader::Reader;

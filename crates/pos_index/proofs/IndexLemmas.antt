@@ -1,16 +1,17 @@
 -- An index that stands for a list of games.
-use Rattle.std.proofs.Common.{◌≡◌, ◌≤◌, ◌+◌, ◌*◌, ℕ, zero, suc, List, [], ◌∷◌, ◌++◌, None, Some, Option, length, set, map, min, sum_by, refl, sym, ap, ◌∙◌, arith}
+use Rattle.std.proofs.Common.{◌≡◌, ◌≤◌, ◌<◌, ◌+◌, ◌*◌, ℕ, zero, suc, List, [], ◌∷◌, ◌++◌, None, Some, Option, length, set, map, min, sum_by, take, refl, sym, ap, ◌∙◌, arith}
 use Rattle.std.specs.Prelude.{All}
 use Rattle.std.specs.List.{range_with_len}
-use Rattle.std.proofs.lemmas.List.{get_or_push, length-map, map-set, map_push, set_at}
+use Rattle.std.proofs.lemmas.List.{get_or-set_same, get_or_push, length-map, length-set, map-set, map_push, set_at, take_more}
 use Rattle.std.proofs.lemmas.List.Sums.{sum_by-le}
 use Rattle.std.proofs.lemmas.Nat.{mul-le}
 use Rattle.std.proofs.lemmas.List.Elements.{All-cons, All-head, All-nil, All-tail, All-weaker}
 use Rattle.game_filter.specs.Renumbering.{renumbered}
 use Rattle.game_tree.specs.Game.{GameTree}
 use Rattle.game_tree.specs.Replay.{plies_of}
-use Rattle.pos_index.specs.Hits.{IsRow, Place, place_at, places_of, row_of}
-use Rattle.pos_index.specs.Keeping.{row_in, with_row}
+use Rattle.pos_index.specs.Hits.{IsLegalPlace, IsRow, Place, last_of, place_at, places_of, row_of}
+use Rattle.pos_index.specs.declared.last.Last.{Last}
+use Rattle.pos_index.specs.Keeping.{place_in, row_in, with_row}
 use Rattle.pos_index.proofs.PlaceLemmas.{map-renumbered}
 
 -- ---- the games that an index stands for
@@ -68,7 +69,43 @@ fewer_fit depth n m le fits = omega (arith, fits, mul-le n (depth + 1) m (depth 
 
 -- ---- a game at the end, and another in a place
 
+-- Places more in the last row.
+pub last_more : (old : List (List Place)) (i : ℕ) (row places : List Place) → i ≡ length old
+    → with_row (old ++ row ∷ []) i (row_in (old ++ row ∷ []) i ++ places) ≡ old ++ (row ++ places) ∷ []
+last_more old i row places last =
+    ap (λ (r : List Place). with_row (old ++ row ∷ []) i (r ++ places)) (get_or_push {X = List Place} old row [] i (sym last))
+    ∙ set_at {A = List Place} old row [] (row ++ places) i (sym last)
+
 pub put_last : (old now : List (List Place)) (i : ℕ) (places : List Place) → i ≡ length old → now ≡ with_row (old ++ [] ∷ []) i (row_in (old ++ [] ∷ []) i ++ places) → now ≡ old ++ places ∷ []
-put_last old now i places last is =
-    is ∙ ap (λ (r : List Place). with_row (old ++ [] ∷ []) i (r ++ places)) (get_or_push {X = List Place} old [] [] i (sym last))
-    ∙ set_at {A = List Place} old [] [] places i (sym last)
+put_last old now i places last is = is ∙ last_more old i [] places last
+
+-- One place more of a game that is copied.
+pub copied_more : (old mid now : List (List Place)) (i k : ℕ) (row : List Place) (place : Place) → i ≡ length old → k < length row → place_in row k ≡ place
+    → mid ≡ old ++ take k row ∷ [] → now ≡ with_row mid i (row_in mid i ++ place ∷ []) → now ≡ old ++ take (k + 1) row ∷ []
+copied_more old mid now i k row place last within at so put =
+    put ∙ ap (λ (l : List (List Place)). with_row l i (row_in l i ++ place ∷ [])) so ∙ last_more old i (take k row) (place ∷ []) last
+    ∙ ap (λ (r : List Place). old ++ r ∷ []) (sym (take_more row k (place_in [] 0) within ∙ ap (λ (p : Place). take k row ++ p ∷ []) at))
+
+pub no_places : (most : ℕ) → IsRow most []
+no_places most = record { few = omega arith; legal = All-nil IsLegalPlace }
+
+-- ---- the last places of all games
+
+-- That of a game whose places were set.
+pub last_kept : (rows now : List (List Place)) (i : ℕ) (row : List Place) (lasts : List (Option Last)) (last : Option Last) → i < length now → lasts ≡ map last_of rows
+    → now ≡ set rows i row → last ≡ last_of (row_in now i) → set lasts i last ≡ map last_of now
+last_kept rows now i row lasts last there kept is at =
+    let within : i < length rows = omega (arith, there, ap length is, length-set rows i row) in
+    let own : last ≡ last_of row = at ∙ ap (λ (l : List (List Place)). last_of (row_in l i)) is ∙ ap last_of (get_or-set_same rows i row [] within) in
+    (λ j. set (kept j) i (own j)) ∙ sym (map-set last_of rows i row) ∙ ap (map last_of) (sym is)
+
+pub lasts_length : (rows now : List (List Place)) (i : ℕ) (row : List Place) (lasts : List (Option Last)) → lasts ≡ map last_of rows → now ≡ set rows i row → length lasts ≡ length now
+lasts_length rows now i row lasts kept is = ap length kept ∙ length-map rows last_of ∙ sym (length-set rows i row) ∙ sym (ap length is)
+
+-- Of one game more, without places.
+pub last_none : (rows : List (List Place)) (lasts : List (Option Last)) → lasts ≡ map last_of rows → lasts ++ None ∷ [] ≡ map last_of (rows ++ [] ∷ [])
+last_none rows lasts kept = ap (λ (l : List (Option Last)). l ++ None ∷ []) kept ∙ sym (map_push last_of rows [])
+
+-- A game at the end is one that is set there.
+pub added_set : (rows : List (List Place)) (i : ℕ) (row : List Place) → i ≡ length rows → rows ++ row ∷ [] ≡ set (rows ++ [] ∷ []) i row
+added_set rows i row last = sym (set_at {A = List Place} rows [] [] row i (sym last))

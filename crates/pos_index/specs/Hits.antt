@@ -1,14 +1,17 @@
 -- Where games stand on a board, up to a depth (this project's own).
-use Rattle.std.specs.Prelude.{◌≡◌, ℕ, ◌+◌, ◌*◌, ◌≤◌, ◌&&◌, if◌then◌else◌, nat_eq, All, Bool, List, [], ◌∷◌, ◌++◌, Option, Some, None, length, map, min, option_map, slice_index_or, sum_by, unwrap_or, IfSome}
+use Rattle.std.specs.Prelude.{◌≡◌, ℕ, ◌+◌, ◌-◌, ◌*◌, ◌≤◌, ◌&&◌, if◌then◌else◌, nat_eq, All, Bool, List, [], ◌∷◌, ◌++◌, Option, Some, None, is_some, length, map, min, option_map, slice_get, slice_index_or, sum, sum_by, unwrap_or, IfSome}
 use Rattle.std.specs.Cmp.Lexicographic.{pointwise}
 use Rattle.std.specs.List.{find, range_with_len}
 use Rattle.cell_core.specs.declared.step.Move.{Move}
 use Rattle.cell_core.specs.Man.{same_colour}
 use Rattle.cell_core.specs.Packed.{Packed, men_of, packed_of}
+use Rattle.chess_laws.specs.Counts.{counts_of}
 use Rattle.chess_laws.specs.Moves.{IsFrom}
 use Rattle.game_tree.specs.Game.{GameTree}
 use Rattle.game_tree.specs.Replay.{next_at, plies_of, position_at}
+use Rattle.sig_index.specs.Homes.{home_set}
 use Rattle.pos_index.specs.declared.hit.Hit.{Hit}
+use Rattle.pos_index.specs.declared.last.Last.{Last}
 
 -- A place of a game: the board with the side to move, packed, after so many half-moves of its main line, and the move after it, if there
 -- is one. Castling rights and the en passant square are left out.
@@ -70,6 +73,18 @@ ply_and_next place = (place.ply, place.next)
 
 abbrev pub first_on : Packed → List Place → Option (ℕ × Option Move)
 first_on board places = option_map ply_and_next (find (λ (place : Place). same_packed board place.board) places)
+
+-- What is kept of the last place of a game, up to the depth: which pawns stand on their own squares there, how many men there are, kings
+-- not counted, and whether a move comes after it. Nothing is kept of a game without places.
+abbrev pub last_at : Place → Last
+last_at place = record {
+  homes = home_set (men_of place.board.cells);
+  men = sum (counts_of (men_of place.board.cells));
+  goes_on = is_some place.next;
+}
+
+abbrev pub last_of : List Place → Option Last
+last_of places = option_map last_at (slice_get places (length places - 1))
 
 -- An index as contracts see it: its depth, and for each number the places of the game that has it.
 pub record Index : Type 0 where

@@ -1,10 +1,14 @@
 //! The position index.
+ghost use Rattle.std.specs.Prelude.{◌≡◌, ◌<◌, ◌^◌, List, length, map, slice_set, IfOk};
+ghost use Rattle.pos_index.specs.Hits.{Place, last_of};
+
 use crate::board_hits::BoardHits;
 use crate::building::read_places;
 use crate::fault::BuildError;
 use crate::hit::Hit;
+use crate::last::Last;
 use crate::places::Places;
-use crate::placing::{common, put_game, set_nexts};
+use crate::placing::{add_game, replace_game};
 use base_files::Files;
 use cell_core::{Move, PackedBoard};
 use game_filter::Renumbering;
@@ -24,17 +28,19 @@ const MOST: u32 = 16_000_000;
 pub struct PosIndex {
     depth: u8,
     places: Places,
+    // What is kept of the last place of each game.
+    lasts: Vec<Option<Last>>,
 }
 
 impl Model for PosIndex {
-    ghost use Rattle.std.specs.Prelude.{◌≤◌, ◌+◌, All, length};
-    ghost use Rattle.pos_index.specs.Hits.{Fits, Index, IsRow};
+    ghost use Rattle.std.specs.Prelude.{◌≡◌, ◌≤◌, ◌+◌, All, length, map};
+    ghost use Rattle.pos_index.specs.Hits.{Fits, Index, IsRow, last_of};
 
     ghost Value = { Index };
 
     ghost view = { λ p. record { depth = p.depth; rows = p.places } };
 
-    ghost invariant = { λ p. (p.depth ≤ 40) × (Fits p.depth (length p.places) × All (IsRow (p.depth + 1)) p.places) };
+    ghost invariant = { λ p. (p.depth ≤ 40) × (Fits p.depth (length p.places) × (All (IsRow (p.depth + 1)) p.places × (p.lasts.items ≡ map last_of p.places))) };
 }
 
 impl PosIndex {
@@ -45,7 +51,7 @@ impl PosIndex {
     ghost use Rattle.sig_index.specs.Games.{AreWithin, Holds};
     ghost use Rattle.pos_index.specs.Asking.{price};
     ghost use Rattle.pos_index.specs.Causes.{HasBuildCause};
-    ghost use Rattle.pos_index.specs.Hits.{Fits, Indexes, IsLegalOn, entries_of, first_on, hits_from, hits_of, places_in, places_of};
+    ghost use Rattle.pos_index.specs.Hits.{Fits, Indexes, IsLegalOn, entries_of, first_on, hits_from, hits_of, last_of, places_in, places_of};
 
     /// The index of the games of a base, up to a depth of at most 40: their records are read, each once, and so many bytes count as asked.
     /// `buf` has at least 131,072 bytes.
@@ -73,7 +79,15 @@ impl PosIndex {
             Ok(places) => places,
             Err(error) => return Err(error),
         };
-        Ok(PosIndex { depth, places })
+        let lasts = match lasts_of(alloc, &places) {
+            Ok(lasts) => lasts,
+            Err(_) => return Err(BuildError::Memory),
+        };
+        Ok(PosIndex {
+            depth,
+            places,
+            lasts,
+        })
     }
 
     /// The depth.
@@ -120,6 +134,13 @@ impl PosIndex {
         self.places.find(p)
     }
 
+    /// What is kept of the last place of each game, up to the depth.
+    pub fn lasts(&self) -> &[Option<Last>]
+        ensures lasts { result.now ≡ map last_of self.now.rows }
+    {
+        self.lasts.as_slice()
+    }
+
     /// The first hit of game `i` on a board with its side to move, up to the depth: after how many half-moves of its main line the game
     /// stands there, and the move then. `None` if it has no hit on the board.
     pub fn first(&self, p: &PackedBoard, i: u32) -> Option<(u32, Option<Move>)>
@@ -140,11 +161,14 @@ impl PosIndex {
         ensures indexed { (games : List (Option GameTree)) → Indexes self.old games → OnOk result (Indexes self.new (games ++ Some g.now ∷ [])) }
         ensures unchanged { OnErr result (self.new ≡ self.old) }
     {
-        self.places.add_row(alloc, usize::from(self.depth) + 1)?;
-        match put_game(alloc, &mut self.places, i, g, 0, self.depth) {
-            Ok(()) => Ok(()),
+        self.lasts.push(None)?;
+        match add_game(alloc, &mut self.places, i, g, self.depth) {
+            Ok(()) => {
+                keep_last(&mut self.lasts, &self.places, i);
+                Ok(())
+            }
             Err(refused) => {
-                self.places.pop_row();
+                self.lasts.pop();
                 Err(refused)
             }
         }
@@ -159,12 +183,9 @@ impl PosIndex {
         ensures indexed { (games : List (Option GameTree)) → Indexes self.old games → OnOk result (Indexes self.new (slice_set games i (Some new.now))) }
         ensures unchanged { OnErr result (self.new ≡ self.old) }
     {
-        let old = self.places.count(i);
-        let kept = common(&self.places, i, new, self.depth);
-        put_game(alloc, &mut self.places, i, new, kept, self.depth)?;
-        self.places
-            .drop_middle(i, usize::from(kept), old - usize::from(kept));
-        set_nexts(&mut self.places, i, new, kept);
+        replace_game(alloc, &mut self.places, i, new, self.depth)?;
+        self.places.forget();
+        keep_last(&mut self.lasts, &self.places, i);
         Ok(())
     }
 
@@ -175,6 +196,8 @@ impl PosIndex {
         ensures indexed { (games : List (Option GameTree)) → Indexes self.old games → Indexes self.new (slice_set games i None) }
     {
         self.places.truncate(i, 0);
+        self.places.forget();
+        keep_last(&mut self.lasts, &self.places, i);
     }
 
     /// The games get their new numbers, and those that go are left out.
@@ -184,5 +207,28 @@ impl PosIndex {
         ensures indexed { (games : List (Option GameTree)) → Indexes self.old games → Indexes self.new (renumbered r.now.to games) }
     {
         self.places.renumber(r);
+        self.places.forget();
+        r.apply(&mut self.lasts);
     }
+}
+
+// What is kept of the last place of each game.
+fn lasts_of(alloc: Global, places: &Places) -> Result<Vec<Option<Last>>, AllocError>
+    requires few { length places.now < 2 ^ 32 }
+    ensures lasts { IfOk result (λ lasts. lasts.items ≡ map last_of places.now) }
+{
+    let mut lasts = Vec::with_capacity(alloc, places.len())?;
+    for i in 0..places.len() as u32 {
+        lasts.push(places.last(i))?;
+    }
+    Ok(lasts)
+}
+
+// What is kept of the last place of game `i` is that of its places now.
+fn keep_last(lasts: &mut Vec<Option<Last>>, places: &Places, i: u32)
+    requires game { i < length places.now }
+    requires games { length lasts.old.items ≡ length places.now }
+    ensures kept { (rows : List (List Place)) (row : List Place) → lasts.old.items ≡ map last_of rows → places.now ≡ slice_set rows i row → lasts.new.items ≡ map last_of places.now }
+{
+    lasts[i as usize] = places.last(i);
 }

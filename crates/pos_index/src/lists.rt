@@ -65,6 +65,19 @@ impl Lists {
         self.lists[board as usize].as_slice()
     }
 
+    /// How many boards have a hit.
+    pub(crate) fn met(&self) -> usize
+        ensures { result ≤ self.now.boards }
+    {
+        let mut met = 0;
+        for hits in self.lists.as_slice() {
+            if !hits.as_slice().is_empty() {
+                met += 1;
+            }
+        }
+        met
+    }
+
     /// One board more.
     pub(crate) fn add_board(&mut self, alloc: Global) -> Result<(), AllocError>
         requires { self.old.boards < 2 ^ 32 }

@@ -1,11 +1,12 @@
 //! The places of games, by their boards and by their games.
-ghost use Rattle.std.specs.Prelude.{◌≡◌, ◌+◌, ◌≤◌, ◌<◌, [], ◌∷◌, ◌++◌, List, Some, length, drop, take, slice_set, IfOk, IsTrue, OnOk, OnErr};
+ghost use Rattle.std.specs.Prelude.{◌≡◌, ◌+◌, ◌≤◌, ◌<◌, ◌^◌, [], ◌∷◌, ◌++◌, List, Some, length, drop, take, slice_set, IfOk, IsTrue, OnOk, OnErr};
 ghost use Rattle.cell_core.specs.Packed.{Packed};
 ghost use Rattle.game_filter.specs.Renumbering.{renumbered};
-ghost use Rattle.pos_index.specs.Hits.{Place, hits_from};
+ghost use Rattle.pos_index.specs.Hits.{Place, hits_from, last_of};
 ghost use Rattle.pos_index.specs.Keeping.{AreKept, EndsEmpty, IsNumber, IsPlaceOn, next_put, place_in, row_in, with_row};
 
 use crate::hit::Hit;
+use crate::last::Last;
 use crate::lists::Lists;
 use crate::spot::Spot;
 use cell_core::{Move, PackedBoard};
@@ -15,12 +16,14 @@ use std::alloc::{AllocError, Global};
 use std::marker::Model;
 
 /// The places of the games with the numbers from 0 on. A board is known by its number among those that were met. It
-/// keeps its number even if no game stands there any more.
+/// keeps its number even if no game stands there any more, until such boards are forgotten.
 #[derive(Drop)]
 pub(crate) struct Places {
     boards: IndexSet<PackedBoard>,
     // There may be a list more than there are boards, without hits.
     lists: Lists,
+    // How many places have gone since it was last looked for boards without hits, or more.
+    gone: usize,
 }
 
 impl Model for Places {
@@ -43,6 +46,7 @@ impl Places {
         Places {
             boards: IndexSet::new(alloc),
             lists: Lists::new(alloc),
+            gone: 0,
         }
     }
 
@@ -129,6 +133,7 @@ impl Places {
         ensures { self.new ≡ with_row self.old i (take from (row_in self.old i) ++ drop (from + count) (row_in self.old i)) }
     {
         self.lists.drop_middle(i, from, count);
+        self.gone = self.gone.saturating_add(count);
     }
 
     /// Sets the move after place `k` of game `i`.
@@ -145,6 +150,8 @@ impl Places {
         requires game { i < length self.old }
         ensures { self.new ≡ with_row self.old i (take count (row_in self.old i)) }
     {
+        let left = count.min(self.count(i));
+        self.gone = self.gone.saturating_add(self.count(i) - left);
         self.lists.truncate(i, count);
     }
 
@@ -154,7 +161,77 @@ impl Places {
         ensures { self.new ≡ renumbered renumbering.now.to self.old }
     {
         self.lists.renumber(renumbering);
+        self.gone = self.boards.len();
     }
+
+    /// Boards that no game meets any more are forgotten where they outnumber the others, unless memory runs out for the others. They are
+    /// looked for where an eighth as many places have gone as there are boards.
+    pub(crate) fn forget(&mut self)
+        requires few { length self.old < 2 ^ 32 }
+        ensures same { self.new ≡ self.old }
+    {
+        if self.gone < self.boards.len() / 8 {
+            return;
+        }
+        self.gone = 0;
+        if self.lists.met() >= self.boards.len() / 2 {
+            return;
+        }
+        if let Ok(places) = anew(self) {
+            *self = places;
+        }
+    }
+
+    // One game more, with the places of game `i` of others.
+    fn copy_row(&mut self, alloc: Global, others: &Places, i: u32) -> Result<(), AllocError>
+        requires game { i < length others.now }
+        requires last { i ≡ length self.old }
+        ensures copied { OnOk result (self.new ≡ self.old ++ row_in others.now i ∷ []) }
+    {
+        let count = others.count(i);
+        self.add_row(alloc, count)?;
+        for k in 0..count {
+            let (board, ply, next) = others.place(i, k);
+            self.put(alloc, i, board, ply, &next)?;
+        }
+        Ok(())
+    }
+
+    /// What is kept of the last place of game `i`.
+    pub(crate) fn last(&self, i: u32) -> Option<Last>
+        requires { i < length self.now }
+        ensures { result ≡ last_of (row_in self.now i) }
+    {
+        let count = self.count(i);
+        if count == 0 {
+            return None;
+        }
+        let (board, _, next) = self.place(i, count - 1);
+        Some(Last::of(&board, &next))
+    }
+
+    // Place `k` of game `i`: the board, after how many half-moves, and the move then.
+    fn place(&self, i: u32, k: usize) -> (PackedBoard, u8, Option<Move>)
+        requires game { i < length self.now }
+        requires place { k < length (row_in self.now i) }
+        ensures place { place_in (row_in self.now i) k ≡ record { board = result.0; ply = result.1; next = result.2 } }
+    {
+        let spot = &self.lists.rows()[i as usize].spots()[k];
+        (self.boards[spot.board as usize], spot.ply, spot.next)
+    }
+}
+
+// The same places, with the boards alone that are met.
+fn anew(old: &Places) -> Result<Places, AllocError>
+    requires few { length old.now < 2 ^ 32 }
+    ensures same { IfOk result (λ places. places ≡ old.now) }
+{
+    let alloc = *old.boards.allocator();
+    let mut places = Places::new(alloc);
+    for i in 0..old.len() as u32 {
+        places.copy_row(alloc, old, i)?;
+    }
+    Ok(places)
 }
 
 // The number of a board, which comes last if it is new. That there are more boards than 32 bits can tell is want of memory too.

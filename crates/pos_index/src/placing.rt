@@ -1,5 +1,5 @@
 //! The places of one game, from the game in memory or from its record.
-ghost use Rattle.std.specs.Prelude.{◌≡◌, ◌+◌, ◌≤◌, ◌<◌, ◌^◌, [], ◌∷◌, ◌++◌, false, true, nat_lt, if◌then◌else◌, List, drop, length, IfOk, OnOk, OnErr};
+ghost use Rattle.std.specs.Prelude.{◌≡◌, ◌+◌, ◌≤◌, ◌<◌, ◌^◌, [], ◌∷◌, ◌++◌, false, true, nat_lt, if◌then◌else◌, List, drop, length, slice_set, IfOk, OnOk, OnErr};
 ghost use Rattle.cell_core.specs.Packed.{packed_of};
 ghost use Rattle.chess_laws.specs.Position.{Sound};
 ghost use Rattle.game_codec.specs.Record.{IsRecord, IsSomeRecord};
@@ -17,9 +17,34 @@ use game_codec::Walk;
 use game_tree::Game;
 use std::alloc::{AllocError, Global};
 
-/// Puts the places of a legal game, up to a depth, behind those that number `i` has, but for the first ones, so many. After want of memory
-/// all is as it was.
-pub(crate) fn put_game(
+/// Adds the places of a legal game, up to a depth, which gets the number `i`. After want of memory all is as it was.
+pub(crate) fn add_game(
+    alloc: Global,
+    places: &mut Places,
+    i: u32,
+    game: &Game,
+    depth: u8,
+) -> Result<(), AllocError>
+    requires last { i ≡ length places.old }
+    requires legal { IsLegalGame game.now }
+    requires depth { depth ≤ 40 }
+    ensures added { OnOk result (places.new ≡ places.old ++ places_of depth game.now ∷ []) }
+    ensures start { OnOk result (Sound game.now.start) }
+    ensures unchanged { OnErr result (places.new ≡ places.old) }
+{
+    places.add_row(alloc, usize::from(depth) + 1)?;
+    match put_game(alloc, places, i, game, 0, depth) {
+        Ok(()) => Ok(()),
+        Err(refused) => {
+            places.pop_row();
+            Err(refused)
+        }
+    }
+}
+
+// Puts the places of a legal game, up to a depth, behind those that number `i` has, but for the first ones, so many. After want of memory
+// all is as it was.
+fn put_game(
     alloc: Global,
     places: &mut Places,
     i: u32,
@@ -44,7 +69,31 @@ pub(crate) fn put_game(
     }
 }
 
-// The same, but after want of memory the first of them may have been put.
+/// Puts the places of a legal game, up to a depth, in the place of those of number `i`. The old ones go, but for those on the boards with
+/// which both begin: these get the moves of the new game. After want of memory all is as it was.
+pub(crate) fn replace_game(
+    alloc: Global,
+    places: &mut Places,
+    i: u32,
+    new: &Game,
+    depth: u8,
+) -> Result<(), AllocError>
+    requires number { i < length places.old }
+    requires legal { IsLegalGame new.now }
+    requires depth { depth ≤ 40 }
+    ensures replaced { OnOk result (places.new ≡ slice_set places.old i (places_of depth new.now)) }
+    ensures start { OnOk result (Sound new.now.start) }
+    ensures unchanged { OnErr result (places.new ≡ places.old) }
+{
+    let old = places.count(i);
+    let kept = common(places, i, new, depth);
+    put_game(alloc, places, i, new, kept, depth)?;
+    places.drop_middle(i, usize::from(kept), old - usize::from(kept));
+    set_nexts(places, i, new, kept);
+    Ok(())
+}
+
+// The same as `put_game`, but after want of memory the first of them may have been put.
 fn try_game(
     alloc: Global,
     places: &mut Places,
@@ -92,8 +141,8 @@ fn put_from(
     places.put(alloc, i, board, ply, next)
 }
 
-/// How many of the first places of number `i` are those of a legal game, but for the moves after them.
-pub(crate) fn common(places: &Places, i: u32, game: &Game, depth: u8) -> u8
+// How many of the first places of number `i` are those of a legal game, but for the moves after them.
+fn common(places: &Places, i: u32, game: &Game, depth: u8) -> u8
     requires number { i < length places.now }
     requires legal { IsLegalGame game.now }
     requires depth { depth ≤ 40 }
@@ -114,8 +163,8 @@ pub(crate) fn common(places: &Places, i: u32, game: &Game, depth: u8) -> u8
     depth + 1
 }
 
-/// Sets the moves after the first places of number `i`, so many, which are those of the game but for them.
-pub(crate) fn set_nexts(places: &mut Places, i: u32, game: &Game, count: u8)
+// Sets the moves after the first places of number `i`, so many, which are those of the game but for them.
+fn set_nexts(places: &mut Places, i: u32, game: &Game, count: u8)
     requires number { i < length places.old }
     requires alike { AreAlike (row_in places.old i) game.now count }
     ensures { places.new ≡ with_row places.old i (first_places game.now count ++ drop count (row_in places.old i)) }

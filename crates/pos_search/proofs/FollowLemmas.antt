@@ -1,10 +1,10 @@
 -- A match passes the test of signatures, and can follow each earlier position.
-use Rattle.std.proofs.Common.{◌≡◌, ℕ, suc, ◌+◌, ◌==◌, ◌<◌, ◌≤◌, Bool, true, false, not, ◌&&◌, ◌||◌, cond, nat_le, List, [], Option, None, refl, sym, ap, ◌∙◌, subst, arith, inl, inr}
-use Rattle.std.specs.Prelude.{◌∷◌, count_by, filter, map, nat_lt, option_map, slice_index}
+use Rattle.std.proofs.Common.{◌≡◌, ℕ, suc, ◌+◌, ◌==◌, ◌<◌, ◌≤◌, Bool, true, false, not, ◌&&◌, ◌||◌, cond, nat_le, List, [], Option, None, refl, sym, ap, ap₂, ◌∙◌, subst, arith, inl, inr}
+use Rattle.std.specs.Prelude.{◌∷◌, count_by, filter, map, nat_lt, option_map, slice_index, sum}
 use Rattle.std.specs.List.{find}
 use Rattle.std.specs.Option.{option_or}
 use Rattle.std.proofs.lemmas.Bool.Decides.{nat_tests}
-use Rattle.std.proofs.lemmas.Bool.{and_from, both_ways, cases_Bool}
+use Rattle.std.proofs.lemmas.Bool.{and_from, both_ways, cases_Bool, le-ltb}
 use Rattle.chess_laws.specs.Counts.{counts_of, is_home}
 use Rattle.chess_laws.specs.Position.{Sound}
 use Rattle.chess_laws.specs.Step.{stepped}
@@ -19,6 +19,7 @@ use Rattle.game_tree.specs.Tree.{Line, ends, goes, more}
 use Rattle.game_tree.specs.Tree.{none as bare}
 use Rattle.index_entry.specs.Counts.{count_code}
 use Rattle.sig_index.specs.declared.pos_query.PosQuery.{PosQuery}
+use Rattle.sig_index.specs.declared.pos_query.Mode.TheVariants.{Exact}
 use Rattle.sig_index.specs.declared.signature.Sig.{Sig}
 use Rattle.sig_index.specs.Coming.{can_come}
 use Rattle.sig_index.specs.Homes.{home_allows, home_set}
@@ -32,9 +33,10 @@ use Rattle.sig_index.proofs.SigOf.{parts}
 use Rattle.sig_index.proofs.SkippingLemmas.{skipping_sound}
 use Rattle.pos_search.specs.Matching.{first_if_aside, first_of, first_on_main, is_sought, matches_at}
 use Rattle.pos_search.proofs.Words.{first_aside}
-use Rattle.pos_search.specs.Passing.{fixes_pawns, just, looks_into, passes, passes_main}
-use Rattle.pos_search.specs.Sought.{can_follow, has_homes}
+use Rattle.pos_search.specs.Passing.{fixes_pawns, has_homes, just, looks_into, passes, passes_main}
+use Rattle.pos_search.specs.Sought.{can_follow}
 use Rattle.pos_search.proofs.MatchLemmas.{matched}
+use Rattle.pos_search.proofs.MenLemmas.{men_fall}
 
 same_least : (counts sought : List ℕ) (place : ℕ) → counts ≡ sought → slice_index sought place ≤ slice_index counts place
 same_least counts sought place same = subst (λ (c : List ℕ). slice_index sought place ≤ slice_index c place) (sym same) (omega arith)
@@ -162,5 +164,23 @@ pub none_follows : (query : PosQuery) (game : GameTree) (i j : ℕ) → Sound ga
     → can_follow query (position_at game i) ≡ false → matches_at query game j ≡ false
 none_follows query game i j sound legal later within not = elim (cases_Bool (matches_at query game j)) [
   | inl holds ↦ absurd (both_ways (can_follow query (position_at game i)) not (match_follows query game i j sound legal later within holds))
+  | inr fails ↦ fails
+]
+
+-- Where there are fewer men than are sought, or a pawn that is sought at home has left, the board does not come.
+pub none_past : (query : PosQuery) (game : GameTree) (i j : ℕ) → Sound game.start → IsLegalGame game → i ≤ j → j ≤ plies_of game → query.mode ≡ Exact
+    → (nat_lt (sum (counts_of (position_at game i).board)) (sum (counts_of query.board)) || not (has_homes query.board (position_at game i).board)) ≡ true
+    → matches_at query game j ≡ false
+none_past query game i j sound legal later within exact past = elim (cases_Bool (matches_at query game j)) [
+  | inl holds ↦
+      let men = (position_at game i).board in
+      let m = matched query (position_at game j) holds in
+      let number : List ℕ → ℕ = λ counts. sum counts in
+      let enough : number (counts_of query.board) ≤ number (counts_of men) =
+      subst (λ (counts : List ℕ). number counts ≤ number (counts_of men)) m.counts (men_fall game i j sound legal later) in
+      let few : nat_lt (number (counts_of men)) (number (counts_of query.board)) ≡ false = le-ltb (number (counts_of men)) (number (counts_of query.board)) enough in
+      let home : has_homes query.board men ≡ true = homes_before game query i j sound legal later within (m.homes (ap fixes_pawns exact)) in
+      absurd (both_ways (nat_lt (sum (counts_of men)) (sum (counts_of query.board)) || not (has_homes query.board men))
+      (ap₂ (λ (a b : Bool). a || not b) few home) past)
   | inr fails ↦ fails
 ]

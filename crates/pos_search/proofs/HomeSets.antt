@@ -15,10 +15,13 @@ use Rattle.cell_core.specs.Sets.{set_of}
 use Rattle.cell_core.proofs.Same.{same_colour-Decides}
 use Rattle.cell_core.proofs.Squares.{bit-set_of}
 use Rattle.chess_laws.specs.Counts.{home_colour, home_square, is_home}
+use Rattle.sig_index.specs.Homes.{home_set}
+use Rattle.sig_index.proofs.AllowLemmas.{home_bit, home_small}
 use Rattle.sig_index.proofs.LeavingLemmas.{same_tests}
 use Rattle.sig_index.proofs.Ranges.{all_each, all_from}
 use Rattle.pos_search.specs.declared.homes.Homes.{Homes}
-use Rattle.pos_search.specs.Sought.{AreHomes, has_homes}
+use Rattle.pos_search.specs.Passing.{has_homes}
+use Rattle.pos_search.specs.Sought.{AreHomes}
 
 -- ---- the squares and the values
 
@@ -147,3 +150,41 @@ pub homes_stand : (sought men : Men) (homes : Homes) (white black : ℕ) → Are
     → black ≡ set_of (is_man Black Pawn) men → (eqb (bit_and white homes.white) homes.white && eqb (bit_and black homes.black) homes.black) ≡ has_homes sought men
 unfolding AreHomes
 homes_stand sought men homes white black are white_is black_is = homes_told sought men white black homes.white homes.black white_is black_is are.0 are.1
+
+-- ---- the values as bits
+
+-- What the home values of two boards tell, as bits.
+values_all : (sought men : Men) → bit_and (home_set men) (home_set sought) ≡ home_set sought → has_homes sought men ≡ true
+unfolding has_homes
+values_all sought men same =
+    all_from (λ (v : ℕ). not (is_home sought v) || is_home men v) 0 16
+    (λ v from less. implied (is_home sought v) (is_home men v)
+    (λ home.
+    let set : bit_at (home_set sought) v ≡ 1 = home_bit sought v less ∙ ap (λ (t : Bool). cond t 1 0) home in
+    let both : bit_at (home_set sought) v ≡ min (bit_at (home_set men) v) (bit_at (home_set sought) v) =
+    ap (λ (h : ℕ). bit_at h v) (sym same) ∙ bit_at_and (home_set men) (home_set sought) v in
+    let few = bit_at-lt (home_set men) v in
+    bit_there (is_home men v) (bit_at (home_set men) v) (home_bit men v less) (omega (arith, set, both, few))))
+
+all_values : (sought men : Men) → has_homes sought men ≡ true → bit_and (home_set men) (home_set sought) ≡ home_set sought
+unfolding has_homes
+all_values sought men all = same_from_bits (bit_and (home_set men) (home_set sought)) (home_set sought) at
+  where
+    kept : (t u : Bool) (a b : ℕ) → (not t || u) ≡ true → b ≡ cond t 1 0 → a ≡ cond u 1 0 → min a b ≡ b
+    kept true true a b h is other = omega (arith, is, other)
+    kept true false a b h is other = absurd (false≢true h)
+    kept false u a b h is other = omega (arith, is)
+
+    at : (v : ℕ) → bit_at (bit_and (home_set men) (home_set sought)) v ≡ bit_at (home_set sought) v
+    at v = bit_at_and (home_set men) (home_set sought) v ∙ elim (cases_lt v 16) [
+      | inl less ↦
+          kept (is_home sought v) (is_home men v) (bit_at (home_set men) v) (bit_at (home_set sought) v)
+          (all_each (λ (n : ℕ). not (is_home sought n) || is_home men n) 0 16 v all (omega arith) less) (home_bit sought v less) (home_bit men v less)
+      | inr past ↦ let none = bit_at_above (home_set sought) 16 v (home_small sought) past in omega (arith, none)
+    ]
+
+pub values_told : (sought men : Men) → eqb (bit_and (home_set men) (home_set sought)) (home_set sought) ≡ has_homes sought men
+values_told sought men =
+    same_tests (eqb (bit_and (home_set men) (home_set sought)) (home_set sought)) (has_homes sought men)
+    (λ same. values_all sought men (eqb-true (bit_and (home_set men) (home_set sought)) (home_set sought) same))
+    (λ all. eq-eqb (bit_and (home_set men) (home_set sought)) (home_set sought) (all_values sought men all))

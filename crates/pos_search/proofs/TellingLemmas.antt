@@ -13,8 +13,9 @@ use Rattle.chess_laws.specs.declared.setup.Setup.{Setup}
 use Rattle.game_tree.specs.Game.{GameTree}
 use Rattle.game_tree.specs.Legal.{IsLegalGame}
 use Rattle.game_tree.specs.Replay.{next_at, plies_of, position_at}
-use Rattle.pos_index.specs.Hits.{Index, IndexesAll, IsLegalOn, Place, first_on, hits_from, place_at, places_in, places_of, ply_and_next, row_of, rows_told, same_packed}
+use Rattle.pos_index.specs.Hits.{Index, IndexesAll, IsLegalOn, Place, first_on, hits_from, last_of, place_at, places_in, places_of, ply_and_next, row_of, rows_told, same_packed}
 use Rattle.pos_index.specs.declared.hit.Hit.{Hit}
+use Rattle.pos_index.specs.declared.last.Last.{Last}
 use Rattle.pos_index.proofs.KeyLemmas.{same_packed-Decides}
 use Rattle.sig_index.specs.Games.{Holds}
 use Rattle.sig_index.specs.declared.pos_query.Mode.{Mode}
@@ -26,15 +27,19 @@ use Rattle.sig_index.proofs.PrefixLemmas.{sound_at}
 use Rattle.sig_index.proofs.Ranges.{find_first, found_first}
 use Rattle.sig_index.proofs.RecordLemmas.{game_legal, game_sound}
 use Rattle.pos_search.specs.Matching.{IsLegalFrom, first_if_aside, first_on_main, hit_of, hit_on_main, matches, matches_at}
-use Rattle.pos_search.specs.Searching.{are_read, hit_told, is_exact, is_read, is_told}
-use Rattle.pos_search.specs.Telling.{TellsHit, hits_told}
+use Rattle.pos_search.specs.Searching.{are_read, hit_told, is_exact, is_read}
+use Rattle.pos_search.specs.Telling.{Told, TellsHit, hits_told}
 use Rattle.pos_search.proofs.FirstLemmas.{matches_from}
 use Rattle.pos_search.proofs.MatchLemmas.{matched}
 use Rattle.pos_search.proofs.Words.{hit_aside}
 
 -- ---- one place
 
-mode_exact : (mode : Mode) → is_exact mode ≡ true → mode ≡ Exact
+-- A place that an index has of a game is one that is sought.
+abbrev pub is_told : PosQuery → Place → Bool
+is_told query place = is_exact query.mode && same_packed (packed_of query.board query.side) place.board
+
+pub mode_exact : (mode : Mode) → is_exact mode ≡ true → mode ≡ Exact
 mode_exact Exact is = refl
 mode_exact Pawns is = absurd (cc)
 mode_exact Files is = absurd (cc)
@@ -71,14 +76,14 @@ find_map {X} {Y} test f (x ∷ xs) = by (test (f x)) (find_map test f xs)
     by true rest = refl
     by false rest = rest
 
-abbrev told_at : PosQuery → GameTree → ℕ → Bool
+abbrev pub told_at : PosQuery → GameTree → ℕ → Bool
 told_at query game k = is_told query (place_at game k)
 
 of_ply : (game : GameTree) (found : Option ℕ) → option_map ply_and_next (option_map (place_at game) found) ≡ option_map (λ (k : ℕ). (k, next_at game k)) found
 of_ply game None = refl
 of_ply game (Some k) = refl
 
-told_of : (query : PosQuery) (depth : ℕ) (game : GameTree)
+pub told_of : (query : PosQuery) (depth : ℕ) (game : GameTree)
     → hit_told query (places_of depth game) ≡ option_map (λ (k : ℕ). (k, next_at game k)) (find (told_at query game) (range_with_len 0 (min depth (plies_of game) + 1)))
 told_of query depth game =
     ap (option_map ply_and_next) (find_map (is_told query) (place_at game) (range_with_len 0 (min depth (plies_of game) + 1)))
@@ -97,7 +102,7 @@ module _ (query : PosQuery) (depth : ℕ) (game : GameTree) (board : length quer
   to_told : (k : ℕ) → query.mode ≡ Exact → matches_at query game k ≡ true → told_at query game k ≡ true
   to_told k exact holds = matches_told query (position_at game k) (place_at game k).board refl exact holds
 
-  fails_told : (k : ℕ) → query.mode ≡ Exact → told_at query game k ≡ false → matches_at query game k ≡ false
+  pub fails_told : (k : ℕ) → query.mode ≡ Exact → told_at query game k ≡ false → matches_at query game k ≡ false
   fails_told k exact fails = elim (cases_Bool (matches_at query game k)) [
     | inl holds ↦ absurd (both_ways (told_at query game k) fails (to_told k exact holds))
     | inr not ↦ not
@@ -139,7 +144,7 @@ module _ (query : PosQuery) (depth : ℕ) (game : GameTree) (board : length quer
 
 -- ---- the games of a base
 
-row_at : (depth : ℕ) (list : List GameTree) (i : ℕ) (game : GameTree) → slice_get list i ≡ Some game → places_in (map (row_of depth) (map Some list)) i ≡ places_of depth game
+pub row_at : (depth : ℕ) (list : List GameTree) (i : ℕ) (game : GameTree) → slice_get list i ≡ Some game → places_in (map (row_of depth) (map Some list)) i ≡ places_of depth game
 row_at depth list i game there =
     get_or_from_slice_get (map (row_of depth) (map Some list)) i (places_of depth game) []
     (slice_get-map (row_of depth) (map Some list) i ∙ ap (option_map (row_of depth)) (slice_get-map (λ (g : GameTree). Some g) list i ∙ ap (option_map Some) there))
@@ -180,27 +185,35 @@ told_first query places board found exact is first = first ∙ ap (λ (b : Packe
 
 -- ---- the hits of all games
 
-no_hits : (query : PosQuery) → [] ≡ hits_told query []
+abbrev pub nothing : Told
+nothing = record { hits = []; lasts = [] }
+
+abbrev pub told_as : List Hit → List (Option Last) → Told
+told_as hits lasts = record { hits = hits; lasts = lasts }
+
+abbrev told_if : PosQuery → List (List Place) → Bool → Told
+told_if query rows t = record { hits = cond t (hits_from (packed_of query.board query.side) 0 rows) []; lasts = cond t (map last_of rows) [] }
+
+no_hits : (query : PosQuery) → nothing ≡ hits_told query []
 no_hits query = by (is_exact query.mode)
   where
-    by : (t : Bool) → [] ≡ cond t (hits_from (packed_of query.board query.side) 0 []) []
+    by : (t : Bool) → nothing ≡ told_if query [] t
     by true = refl
     by false = refl
 
-pub hits_none : (query : PosQuery) (hits : List Hit) → hits ≡ [] → hits ≡ hits_told query []
-hits_none query hits none = none ∙ no_hits query
+pub hits_none : (query : PosQuery) (told : Told) → told ≡ nothing → told ≡ hits_told query []
+hits_none query told none = none ∙ no_hits query
 
-pub hits_other : (query : PosQuery) (rows : List (List Place)) (hits : List Hit) → is_exact query.mode ≡ false → hits ≡ [] → hits ≡ hits_told query rows
-hits_other query rows hits not none =
-    none ∙ ap (λ (t : Bool). cond t (hits_from (packed_of query.board query.side) 0 rows) []) (sym not)
+pub hits_other : (query : PosQuery) (rows : List (List Place)) (told : Told) → is_exact query.mode ≡ false → told ≡ nothing → told ≡ hits_told query rows
+hits_other query rows told not none = none ∙ ap (told_if query rows) (sym not)
 
-pub hits_exact : (query : PosQuery) (rows : List (List Place)) (hits : List Hit) (board : Packed) → is_exact query.mode ≡ true → board ≡ packed_of query.board query.side
-    → hits ≡ hits_from board 0 rows → hits ≡ hits_told query rows
-hits_exact query rows hits board exact is found =
-    found ∙ ap (λ (b : Packed). hits_from b 0 rows) is ∙ ap (λ (t : Bool). cond t (hits_from (packed_of query.board query.side) 0 rows) []) (sym exact)
+pub hits_exact : (query : PosQuery) (rows : List (List Place)) (hits : List Hit) (lasts : List (Option Last)) (board : Packed) → is_exact query.mode ≡ true
+    → board ≡ packed_of query.board query.side → hits ≡ hits_from board 0 rows → lasts ≡ map last_of rows → told_as hits lasts ≡ hits_told query rows
+hits_exact query rows hits lasts board exact is found kept =
+    (λ j. told_as ((found ∙ ap (λ (b : Packed). hits_from b 0 rows) is) j) (kept j)) ∙ ap (told_if query rows) (sym exact)
 
 -- The first of a game among them is what its places tell.
-pub first_hit : (query : PosQuery) (rows : List (List Place)) (hits : List Hit) (i : ℕ) (first : Option (ℕ × Option Move)) → hits ≡ hits_told query rows
+pub first_hit : (query : PosQuery) (rows : List (List Place)) (hits : List Hit) (i : ℕ) (first : Option (ℕ × Option Move)) → hits ≡ (hits_told query rows).hits
     → ((board : Packed) (all : List (List Place)) → hits ≡ hits_from board 0 all → first ≡ first_on board (places_in all i)) → first ≡ hit_told query (places_in rows i)
 first_hit query rows hits i first is firsts = elim (cases_Bool (is_exact query.mode)) [
   | inl exact ↦

@@ -68,14 +68,14 @@ matches_at query game ply = matches query (position_at game ply)
 
 -- The first ply of the main line at which it matches, or none if it never does; ply 0 is the start.
 abbrev pub first_on_main : PosQuery → GameTree → Option ℕ
-first_on_main query game = find (matches_at query game) (range_with_len 0 (plies_of game + 1))
+first_on_main query game = find (λ ply. matches query (position_at game ply)) (range_with_len 0 (plies_of game + 1))
 
 -- The ply of the first place in its variations, as they are written, whose position is one that is sought, if the query looks there.
 abbrev pub is_sought : PosQuery → Setup × ℕ → Bool
 is_sought query place = matches query place.0
 
 abbrev pub first_if_aside : PosQuery → GameTree → Option ℕ
-first_if_aside query game = if query.vars then option_map (λ (place : Setup × ℕ). place.1) (find (is_sought query) (places game)) else None
+first_if_aside query game = if query.vars then option_map (λ (place : Setup × ℕ). place.1) (find (λ (place : Setup × ℕ). matches query place.0) (places game)) else None
 
 -- The first ply of the main line, and if there is none that of the variations.
 abbrev pub first_of : PosQuery → GameTree → Option ℕ

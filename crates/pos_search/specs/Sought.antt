@@ -1,14 +1,13 @@
 -- What the functions of this crate keep of a query, and when they end a walk.
-use Rattle.std.specs.Prelude.{◌≡◌, ℕ, List, Bool, true, not, ◌&&◌, ◌||◌, if◌then◌else◌, Option, Some, None}
+use Rattle.std.specs.Prelude.{◌≡◌, ℕ, List, Bool, true, not, ◌&&◌, ◌||◌, if◌then◌else◌, sum, Option, Some, None}
 use Rattle.std.specs.Int.RustNames.{bit_and}
-use Rattle.std.specs.List.{list_all}
 use Rattle.std.specs.Option.{option_or}
 use Rattle.cell_core.specs.declared.man.Colour.TheVariants.{White, Black}
 use Rattle.cell_core.specs.declared.man.Kind.TheVariants.{Pawn}
 use Rattle.cell_core.specs.Board.{Men}
 use Rattle.cell_core.specs.Man.{is_man}
 use Rattle.cell_core.specs.Sets.{set_of}
-use Rattle.chess_laws.specs.Counts.{counts_of, is_home}
+use Rattle.chess_laws.specs.Counts.{counts_of}
 use Rattle.chess_laws.specs.declared.setup.Setup.{Setup}
 use Rattle.chess_laws.specs.Position.{Sound}
 use Rattle.game_codec.specs.AllWalk.{AllWalked}
@@ -17,9 +16,8 @@ use Rattle.sig_index.specs.declared.mat_query.MatRange.{MatRange}
 use Rattle.sig_index.specs.declared.pos_query.PosQuery.{PosQuery}
 use Rattle.sig_index.specs.Coming.{can_come}
 use Rattle.sig_index.specs.Homes.{home_set}
-use Rattle.sig_index.specs.Signature.{all_homes}
 use Rattle.pos_search.specs.Matching.{matches}
-use Rattle.pos_search.specs.Passing.{fixes_pawns, just}
+use Rattle.pos_search.specs.Passing.{fixes_pawns, has_homes, just}
 use Rattle.pos_search.specs.declared.coming.Coming.{Coming}
 use Rattle.pos_search.specs.declared.homes.Homes.{Homes}
 
@@ -28,17 +26,14 @@ unfoldable pub AreHomes : Men → Homes → Type 0
 AreHomes men homes =
     (homes.white ≡ bit_and (set_of (is_man White Pawn) men) 65280) × (homes.black ≡ bit_and (set_of (is_man Black Pawn) men) 71776119061217280)
 
--- What is counted on the board of a query: its ten counts, the same as the only ones of a range, and
+-- What is counted on the board of a query: its ten counts, the same as the only ones of a range, their sum, and
 -- its pawns at home by their values and by their squares.
-pub record IsCounted (query : PosQuery) (counts : List ℕ) (range : MatRange) (homes : ℕ) (squares : Homes) : Type 0 where
+pub record IsCounted (query : PosQuery) (counts : List ℕ) (range : MatRange) (men homes : ℕ) (squares : Homes) : Type 0 where
   pub numbers : counts ≡ counts_of query.board
   pub counted : range ≡ just (counts_of query.board)
+  pub summed : men ≡ sum (counts_of query.board)
   pub at_home : homes ≡ home_set query.board
   pub stand : AreHomes query.board squares
-
--- Each pawn at home on the first board stands at home on the second.
-unfoldable pub has_homes : Men → Men → Bool
-has_homes sought men = list_all (λ value. not (is_home sought value) || is_home men value) all_homes
 
 -- A position that is sought can still come after this one: no man is missing, and if the mode fixes them, no pawn at home.
 unfoldable pub can_follow : PosQuery → Setup → Bool

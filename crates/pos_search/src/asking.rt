@@ -4,19 +4,18 @@ ghost use Rattle.game_codec.specs.Record.{IsRecord, IsSomeRecord};
 ghost use Rattle.pos_search.specs.Telling.{first_asked, tells};
 
 use crate::matching::Sought;
-use crate::telling::ply_told;
+use crate::telling::{Told, is_open, ply_told};
 use crate::walking::ply_sought;
 use game_codec::RecordFault;
 use game_search::Question;
-use pos_index::BoardHits;
 use sig_index::Brief;
 use std::marker::Model;
 
-/// What is sought, with the hits that an index tells of it, if there is one.
+/// What is sought, with what an index tells of it, if there is one.
 #[derive(Drop)]
 pub(crate) struct Asked<'s, 'a> {
     pub(crate) sought: Sought<'s>,
-    pub(crate) told: BoardHits<'a>,
+    pub(crate) told: Told<'a>,
 }
 
 impl<'s, 'a> Model for Asked<'s, 'a> {
@@ -24,7 +23,7 @@ impl<'s, 'a> Model for Asked<'s, 'a> {
 
     ghost Value = { PlainAsked };
 
-    ghost view = { λ asked. record { query = asked.sought; hits = asked.told } };
+    ghost view = { λ asked. record { query = asked.sought; told = asked.told } };
 }
 
 impl<'s, 'a> Question for Asked<'s, 'a> {
@@ -34,14 +33,14 @@ impl<'s, 'a> Question for Asked<'s, 'a> {
 
     fn unread(&mut self, i: u32, sig: &Brief<'_>) -> Option<Option<u32>> {
         let known = ply_told(&mut self.told, i);
-        if known.is_none() && self.sought.passes(sig) {
+        if known.is_none() && is_open(&self.told, i, &self.sought, sig) {
             None
         } else {
             Some(known)
         }
     }
 
-    fn in_record(&self, record: &[u8], sig: &Brief<'_>) -> Result<Option<u32>, RecordFault> {
+    fn in_record(&mut self, record: &[u8], sig: &Brief<'_>) -> Result<Option<u32>, RecordFault> {
         ply_sought(record, sig, &self.sought)
     }
 }

@@ -1,49 +1,10 @@
 //! What two boards have in common.
 ghost use Rattle.std.specs.Prelude.{◌≡◌, ◌<◌, ◌+◌, ◌*◌};
 ghost use Rattle.cell_core.specs.Board.{same_men};
-ghost use Rattle.cell_core.specs.Man.{is_man};
-ghost use Rattle.chess_laws.specs.Counts.{is_home};
-ghost use Rattle.sig_index.specs.Homes.{home_set};
 ghost use Rattle.pos_search.specs.Columns.{on_file, same_numbers, same_pair, same_pairs};
 ghost use Rattle.pos_search.specs.Matching.{same_files, same_pawns};
 
-use cell_core::{Board, Colour, Kind, Man, Square};
-
-// Whether a man of this colour and kind stands on a square.
-fn is_man(cell: &Option<Man>, colour: Colour, kind: Kind) -> bool
-    ensures { result ≡ is_man colour kind cell.now }
-{
-    match cell {
-        Some(man) => man.colour == colour && man.kind == kind,
-        None => false,
-    }
-}
-
-// The home values of the pawns that stand on their own squares, as bits.
-pub(crate) fn home_set(board: &Board) -> u16
-    ensures { result ≡ home_set board.now }
-{
-    let mut set: u16 = 0;
-    for value in 0..16u8 {
-        if is_home(board, value) {
-            set |= 1 << value;
-        }
-    }
-    set
-}
-
-// Whether the pawn with this home value stands on its own square.
-fn is_home(board: &Board, value: u8) -> bool
-    requires { value < 16 }
-    ensures { result ≡ is_home board.now value }
-{
-    let (colour, square) = if value < 8 {
-        (Colour::Black, Square::at(55 - value))
-    } else {
-        (Colour::White, Square::at(23 - value))
-    };
-    is_man(&board.at(square), colour, Kind::Pawn)
-}
+use cell_core::{Board, Colour, Kind};
 
 // Whether the boards have the same men on the same squares. The pawns come first: by them most boards differ.
 #[inline(always)]

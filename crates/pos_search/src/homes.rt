@@ -1,7 +1,8 @@
 //! The pawns at home of the board that is sought, by which a walk ends once one of them has left.
 ghost use Rattle.std.specs.Prelude.{◌≡◌};
 ghost use Rattle.cell_core.specs.Board.{Men};
-ghost use Rattle.pos_search.specs.Sought.{AreHomes, has_homes};
+ghost use Rattle.pos_search.specs.Passing.{has_homes};
+ghost use Rattle.pos_search.specs.Sought.{AreHomes};
 
 use cell_core::{Board, Colour, Kind};
 

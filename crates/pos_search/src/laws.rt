@@ -14,7 +14,7 @@ ghost use Rattle.sig_index.specs.declared.pos_query.PosQuery.{PosQuery};
 ghost use Rattle.sig_index.specs.declared.signature.Sig.{Sig};
 ghost use Rattle.pos_search.specs.Matching.{FirstPly, first_of, first_on_main, hit_of, hit_on_main, matches, matches_at};
 ghost use Rattle.pos_search.specs.Passing.{passes};
-ghost use Rattle.pos_search.specs.Searching.{hit_told};
+ghost use Rattle.pos_search.specs.Searching.{hit_told, is_out};
 
 /// A law: if `passes` is false of its signature, a legal game matches at no ply of its main line and has no first
 /// place. If the query looks in variations, such a game has none, so that only games without variations are passed
@@ -36,7 +36,8 @@ pub fn first_plies_are_first()
 {}
 
 /// A law: what the places of a legal game up to a depth tell for a query is the game's hit, on its main line and within
-/// the depth. For an exact query they tell it whenever the main line first matches within the depth.
+/// the depth. For an exact query they tell it whenever the main line first matches within the depth. If they tell none and the game is out,
+/// it has no hit.
 pub fn index_tells_hits()
     ensures main { (query : PosQuery) (depth : ℕ) (game : GameTree) (hit : ℕ × Option Move) → length query.board ≡ 64 → Sound game.start → IsLegalGame game
         → hit_told query (places_of depth game) ≡ Some hit → (hit_on_main query game ≡ Some hit) × (hit.0 ≤ depth) }
@@ -44,4 +45,6 @@ pub fn index_tells_hits()
         → hit_told query (places_of depth game) ≡ Some hit → hit_of query game ≡ Some hit }
     ensures decides { (query : PosQuery) (depth : ℕ) (game : GameTree) (ply : ℕ) → length query.board ≡ 64 → Sound game.start → IsLegalGame game → query.mode ≡ Exact
         → first_on_main query game ≡ Some ply → ply ≤ depth → hit_told query (places_of depth game) ≡ Some (ply, next_at game ply) }
+    ensures out { (query : PosQuery) (depth : ℕ) (game : GameTree) (sig : Sig) → length query.board ≡ 64 → Sound game.start → IsLegalGame game → IsSig game sig
+        → hit_told query (places_of depth game) ≡ None → is_out query (places_of depth game) sig ≡ true → hit_of query game ≡ None }
 {}

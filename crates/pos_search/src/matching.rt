@@ -5,14 +5,16 @@ ghost use Rattle.chess_laws.specs.Position.{Sound};
 ghost use Rattle.sig_index.specs.Coming.{can_come};
 ghost use Rattle.sig_index.specs.Homes.{IsHomeList};
 ghost use Rattle.pos_search.specs.Matching.{alike, matches, same_counts};
-ghost use Rattle.pos_search.specs.Passing.{fixes_pawns, just, looks_into, passes};
-ghost use Rattle.pos_search.specs.Sought.{IsTold, can_follow, has_homes};
+ghost use Rattle.pos_search.specs.Passing.{fixes_pawns, has_homes, just, looks_into, passes};
+ghost use Rattle.pos_search.specs.Sought.{IsTold, can_follow};
+ghost use Rattle.pos_search.specs.Telling.{past_by};
 
-use crate::boards::{home_set, same_files, same_men, same_pawns};
+use crate::boards::{same_files, same_men, same_pawns};
 use crate::coming::Coming;
 use crate::homes::Homes;
 use cell_core::Colour;
 use chess_laws::{Counts, Position};
+use pos_index::{Last, home_set, men_in};
 use sig_index::{Brief, MatRange, Mode, PosQuery, can_come, can_stand, home_allows};
 use std::marker::Model;
 
@@ -31,9 +33,10 @@ pub fn passes(s: &Brief<'_>, q: &PosQuery) -> bool
 #[derive(Drop)]
 pub struct Sought<'a> {
     query: &'a PosQuery,
-    // The ten counts, and the same as the only ones of a range.
+    // The ten counts, the same as the only ones of a range, and their sum.
     counts: Counts,
     range: MatRange,
+    men: u16,
     // The pawns at home: their values, and their squares.
     homes: u16,
     at_home: Homes,
@@ -47,7 +50,7 @@ impl<'a> Model for Sought<'a> {
 
     ghost view = { λ s. s.query.now };
 
-    ghost invariant = { λ s. IsCounted s.query.now s.counts s.range s.homes s.at_home };
+    ghost invariant = { λ s. IsCounted s.query.now s.counts s.range s.men s.homes s.at_home };
 }
 
 impl<'a> Sought<'a> {
@@ -65,6 +68,7 @@ impl<'a> Sought<'a> {
                 lo: numbers,
                 hi: numbers,
             },
+            men: men_in(&query.board),
             homes: home_set(&query.board),
             at_home: Homes::of(&query.board),
         }
@@ -94,6 +98,13 @@ impl<'a> Sought<'a> {
         ensures into { result ≡ looks_into s.now self.now }
     {
         self.query.vars && s.variations() != 0
+    }
+
+    // Whether no ply behind the last place of a game that an index has can have the board, by what is kept of that place.
+    pub(crate) fn is_past(&self, last: &Last) -> bool
+        ensures { result ≡ past_by self.now last.now }
+    {
+        !last.goes_on || last.men < self.men || last.homes & self.homes != self.homes
     }
 
     // Whether variations are looked at too.

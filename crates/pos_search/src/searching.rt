@@ -14,12 +14,12 @@ ghost use Rattle.pos_search.specs.Telling.{AreLegalHits, hits_told};
 
 use crate::asking::Asked;
 use crate::matching::Sought;
-use crate::telling::{hit_told, hits_told};
+use crate::telling::{Told, hit_told, hits_told, is_open};
 use crate::walking::first_sought;
 use base_files::Files;
 use cell_core::Move;
 use game_filter::{Filter, Op};
-use pos_index::{BoardHits, PosIndex};
+use pos_index::PosIndex;
 use sig_index::{FetchError, Games, PosQuery};
 
 /// The first ply at which game `i` matches, with the move after it on the main line and none in a variation, or `None` if it never does.
@@ -95,13 +95,13 @@ pub fn search<G: Games, F: Files>(
     game_search::search(games, &mut asked, op, filter, files, buf)
 }
 
-/// The same as `hit`, of what is sought, with the hits that an index of these games tells of it, if there is one.
+/// The same as `hit`, of what is sought, with what an index of these games tells of it, if there is one.
 #[inline(always)]
 pub fn hit_sought<G: Games, F: Files>(
     games: &G,
     i: u32,
     q: &Sought<'_>,
-    told: &mut BoardHits<'_>,
+    told: &mut Told<'_>,
     files: &mut F,
     buf: &mut [u8],
 ) -> Result<Option<(u32, Option<Move>)>, FetchError>
@@ -122,7 +122,7 @@ pub fn hit_sought<G: Games, F: Files>(
     if let Some(found) = hit_told(told, i) {
         return Ok(Some(found));
     }
-    if !q.passes(&games.brief(i)) {
+    if !is_open(told, i, q, &games.brief(i)) {
         return Ok(None);
     }
     hit_read(games, i, q, files, buf)

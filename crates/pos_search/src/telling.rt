@@ -1,40 +1,109 @@
 //! What an index tells of the games for a query.
-ghost use Rattle.std.specs.Prelude.{◌≡◌, List, option_copied};
+ghost use Rattle.std.specs.Prelude.{◌≡◌, ◌&&◌, not, List, [], None, option_copied, slice_index_or};
 ghost use Rattle.pos_index.specs.Hits.{Place, places_in, rows_told};
+ghost use Rattle.sig_index.specs.Homes.{IsHomeList};
 ghost use Rattle.sig_index.specs.declared.pos_query.PosQuery.{PosQuery as Query};
 ghost use Rattle.pos_search.specs.Matching.{IsLegalFrom};
-ghost use Rattle.pos_search.specs.Searching.{hit_told, is_exact, ply_of};
-ghost use Rattle.pos_search.specs.Telling.{AreLegalHits, hits_told};
+ghost use Rattle.pos_search.specs.Passing.{passes};
+ghost use Rattle.pos_search.specs.Searching.{hit_told, is_exact, is_out, ply_of};
+ghost use Rattle.pos_search.specs.Telling.{AreLegalHits, hits_told, out_by};
 
+use crate::matching::Sought;
 use cell_core::{Move, pack};
-use pos_index::{BoardHits, PosIndex};
-use sig_index::{Mode, PosQuery};
+use pos_index::{BoardHits, Last, PosIndex};
+use sig_index::{Brief, Mode, PosQuery};
+use std::marker::Model;
 
-/// The hits of a query that an index tells, if there is one: none, if the query is not exact.
-pub fn hits_told<'a>(q: &PosQuery, index: Option<&'a PosIndex>) -> BoardHits<'a>
+/// What an index tells a search of all games, if there is one: the hits on the board that is sought, and what is kept of the last place of
+/// each game.
+#[derive(Drop)]
+pub struct Told<'a> {
+    hits: BoardHits<'a>,
+    lasts: &'a [Option<Last>],
+}
+
+impl<'a> Model for Told<'a> {
+    ghost use Rattle.pos_search.specs.Telling.{Told as PlainTold};
+
+    ghost Value = { PlainTold };
+
+    ghost view = { λ told. record { hits = told.hits; lasts = told.lasts.now } };
+}
+
+/// What an index tells for a query, if there is one: nothing, if the query is not exact.
+pub fn hits_told<'a>(q: &PosQuery, index: Option<&'a PosIndex>) -> Told<'a>
     ensures told { result ≡ hits_told q.now (rows_told (option_copied index.entry)) }
     ensures legal { AreLegalHits q.now result }
 {
     let Some(index) = index else {
-        return BoardHits::new(&[]);
+        return nothing_told();
     };
     if !is_exact(q.mode) {
-        return BoardHits::new(&[]);
+        return nothing_told();
     }
-    BoardHits::new(index.find(&pack(&q.board, q.side)))
+    Told {
+        hits: BoardHits::new(index.find(&pack(&q.board, q.side))),
+        lasts: index.lasts(),
+    }
 }
 
-// The hit of game `i`, if these hits tell it.
-pub(crate) fn hit_told(told: &mut BoardHits<'_>, i: u32) -> Option<(u32, Option<Move>)>
+// No hits, and nothing of any game.
+fn nothing_told<'a>() -> Told<'a>
+    ensures { result ≡ record { hits = []; lasts = [] } }
+{
+    Told {
+        hits: BoardHits::new(&[]),
+        lasts: &[],
+    }
+}
+
+// The hit of game `i`, if it is told.
+pub(crate) fn hit_told(told: &mut Told<'_>, i: u32) -> Option<(u32, Option<Move>)>
     ensures same { told.new ≡ told.old }
     ensures told { (query : Query) (rows : List (List Place)) → told.old ≡ hits_told query rows → result ≡ hit_told query (places_in rows i) }
     ensures legal { (query : Query) → AreLegalHits query told.old → IsLegalFrom query result }
 {
-    told.first(i)
+    told.hits.first(i)
 }
 
-// The first matching ply of game `i`, if these hits tell it.
-pub(crate) fn ply_told(told: &mut BoardHits<'_>, i: u32) -> Option<u32>
+// Whether game `i`, of which no hit is told, can match.
+pub(crate) fn is_open(told: &Told<'_>, i: u32, q: &Sought<'_>, sig: &Brief<'_>) -> bool
+    requires home { IsHomeList sig.now.home }
+    ensures { (rows : List (List Place)) → told.now ≡ hits_told q.now rows → result ≡ (passes sig.now q.now && not (is_out q.now (places_in rows i) sig.now)) }
+{
+    !is_out(told, i, q, sig) && q.passes(sig)
+}
+
+// Whether what is kept of the last place of game `i` rules it out.
+fn is_out(told: &Told<'_>, i: u32, q: &Sought<'_>, sig: &Brief<'_>) -> bool
+    ensures { (rows : List (List Place)) → told.now ≡ hits_told q.now rows → result ≡ is_out q.now (places_in rows i) sig.now }
+{
+    is_out_by(&last_told(told, i), q, sig)
+}
+
+// What is kept of the last place of game `i`.
+fn last_told(told: &Told<'_>, i: u32) -> Option<Last>
+    ensures { result ≡ slice_index_or told.now.lasts i None }
+{
+    if (i as usize) < told.lasts.len() {
+        told.lasts[i as usize]
+    } else {
+        None
+    }
+}
+
+// Whether it rules the game out.
+fn is_out_by(last: &Option<Last>, q: &Sought<'_>, sig: &Brief<'_>) -> bool
+    ensures { result ≡ out_by q.now sig.now last.now }
+{
+    match last {
+        Some(last) => q.is_past(last) && !q.looks_into(sig),
+        None => false,
+    }
+}
+
+// The first matching ply of game `i`, if it is told.
+pub(crate) fn ply_told(told: &mut Told<'_>, i: u32) -> Option<u32>
     ensures same { told.new ≡ told.old }
     ensures told { (query : Query) (rows : List (List Place)) → told.old ≡ hits_told query rows → result ≡ ply_of (hit_told query (places_in rows i)) }
 {

@@ -10,7 +10,7 @@ ghost use Rattle.pos_search.specs.Sought.{Met, found_aside};
 
 use crate::matching::Sought;
 use cell_core::Move;
-use game_codec::{AllWalk, RecordFault, Walk};
+use game_codec::{AllWalk, OuterLines, RecordFault, Walk};
 use sig_index::{Brief, PosQuery};
 
 /// Gives the first ply of the main line of a record that matches, with the move after it. If none does and the query
@@ -37,21 +37,38 @@ pub(crate) fn first_sought(
     ensures fault { IfErr result (λ _. IsSomeRecord bytes.now → ⊥) }
 {
     if q.looks_aside() {
-        first_in_lines(bytes, q)
+        first_in_room(bytes, q)
     } else {
         first_on_main(bytes, q)
     }
 }
 
-// The same if variations are looked at too: the main line comes first, wherever its place stands.
-fn first_in_lines(bytes: &[u8], q: &Sought<'_>) -> Result<Option<(u32, Option<Move>)>, RecordFault>
+// The same if variations are looked at too, with room for the open lines. It stands apart, so that no other walk has the room cleared.
+#[inline(never)]
+fn first_in_room(bytes: &[u8], q: &Sought<'_>) -> Result<Option<(u32, Option<Move>)>, RecordFault>
     requires few { length bytes.now < 2 ^ 32 }
     requires aside { IsTrue q.now.vars }
     ensures first { IfOk result (λ hit. (tags : List Tag) (game : GameTree) → IsRecord bytes.now tags game → hit ≡ hit_of q.now game) }
     ensures legal { IfOk result (λ hit. IsLegalFrom q.now hit) }
     ensures fault { IfErr result (λ _. IsSomeRecord bytes.now → ⊥) }
 {
-    let mut walk = AllWalk::new(bytes)?;
+    let mut room = OuterLines::new();
+    first_in_lines(bytes, q, &mut room)
+}
+
+// The same with room that is lent: the main line comes first, wherever its place stands.
+fn first_in_lines(
+    bytes: &[u8],
+    q: &Sought<'_>,
+    room: &mut OuterLines,
+) -> Result<Option<(u32, Option<Move>)>, RecordFault>
+    requires few { length bytes.now < 2 ^ 32 }
+    requires aside { IsTrue q.now.vars }
+    ensures first { IfOk result (λ hit. (tags : List Tag) (game : GameTree) → IsRecord bytes.now tags game → hit ≡ hit_of q.now game) }
+    ensures legal { IfOk result (λ hit. IsLegalFrom q.now hit) }
+    ensures fault { IfErr result (λ _. IsSomeRecord bytes.now → ⊥) }
+{
+    let mut walk = AllWalk::new(bytes, room)?;
     if q.matches(walk.position()) {
         return first_on_main(bytes, q);
     }
@@ -127,7 +144,7 @@ fn ply_in_lines(bytes: &[u8], q: &Sought<'_>) -> Result<Option<u32>, RecordFault
     ensures first { IfOk result (λ ply. (tags : List Tag) (game : GameTree) → IsRecord bytes.now tags game → ply ≡ first_of q.now game) }
     ensures fault { IfErr result (λ _. IsSomeRecord bytes.now → ⊥) }
 {
-    match first_in_lines(bytes, q) {
+    match first_in_room(bytes, q) {
         Ok(hit) => Ok(ply_of(hit)),
         Err(fault) => Err(fault),
     }

@@ -1,35 +1,44 @@
 -- Laws of games that are made of draws and added one by one, and of showing them.
-use Rattle.std.proofs.Common.{false, ◌+◌, ℕ, List, Option, ◌≡◌, ap, ◌∙◌, None, sym, true, [], ◌++◌, Some, subst, Ok, refl, suc, arith, zero, ◌-◌, ◌<◌, Result, Err, ◌≤◌, OnOk}
-use Rattle.std.specs.Prelude.{IfErr, cond, if◌then◌else◌, is_some, option_map, unwrap_or}
+use Rattle.std.proofs.Common.{Bool, false, ◌+◌, ℕ, List, Option, ◌≡◌, ap, ◌∙◌, None, sym, true, [], ◌++◌, Some, subst, Ok, refl, suc, arith, zero, ◌-◌, ◌<◌, Result, Err, ◌≤◌, OnOk}
+use Rattle.std.specs.List.{flat_map, sum_by}
+use Rattle.std.specs.Prelude.{IfErr, codes, cond, length, replicate, if◌then◌else◌, is_some, option_map, unwrap_or}
 use Rattle.base_files.specs.Seen.{Seen}
 use Rattle.base_files.specs.Told.{adds}
 use Rattle.base_files.specs.declared.faults.Stop.TheVariants as stop
+use Rattle.cell_core.specs.Board.{Men}
+use Rattle.cell_core.specs.declared.man.Colour.{Colour}
 use Rattle.cell_core.specs.declared.man.Colour.TheVariants.{White}
 use Rattle.chess_laws.specs.Position.{start_men}
 use Rattle.command_runs.proofs.Joining.{done_after, halted_after, halted_unsure, halted_more, halted_none}
 use Rattle.command_runs.specs.Endings.{Serves, Cut, Halted, Done}
 use Rattle.demo_games.specs.Demo.{Made, demo_game}
+use Rattle.game_filter.specs.Filter.{count_in}
 use Rattle.game_filter.specs.declared.op.Op.TheVariants.{And, Ignore}
 use Rattle.game_tree.specs.Replay.{plies_of}
 use Rattle.sig_index.specs.declared.pos_query.PosQuery.{PosQuery}
+use Rattle.tree_rows.specs.Rows.{rows_of}
+use Rattle.tree_rows.specs.TreeText.{averages_text, counts_text, in_order, row_line, tree_text}
+use Rattle.tree_rows.specs.declared.row.Row.{Row}
 use Rattle.search_commands.specs.Demo.{adding, one_more, with_made, Adding, at_start, shown_after, shown_text, demo_line, demo_text, demo_after, demo_work, shown_price, demo_price}
 use Rattle.search_commands.specs.Demoing.{IsAdding, IsRefused, Wrote}
 use Rattle.search_commands.specs.Searching.{search_position_text, search_position_after, search_position_work}
 use Rattle.search_commands.specs.Trees.{tree_said, tree_work}
 use Rattle.shell_state.proofs.CarryLaws.{carry_before}
-use Rattle.shell_state.proofs.Causing.{broken_by_fault}
+use Rattle.shell_state.proofs.Causing.{broken_by_fault, fault_of_device}
 use Rattle.shell_state.proofs.PriceLaws.{asked_told}
 use Rattle.shell_state.proofs.Served.{line_serves}
+use Rattle.shell_state.proofs.Unfinishing.{has_byte, some_behind, unfinished_behind, unfinished_by, unfinished_more, unfinished_none}
 use Rattle.shell_state.specs.Carrying.{StillCarry}
-use Rattle.shell_state.specs.Ends.{IsFault, IsOutput}
-use Rattle.shell_state.specs.Refusing.{not_added, refusal_line}
-use Rattle.shell_state.specs.Stands.{Stands, Holding, Broken, Asks}
+use Rattle.shell_state.specs.Lines.{count_line}
+use Rattle.shell_state.specs.Ends.{IsDevice, IsFault, IsOutput}
+use Rattle.shell_state.specs.Refusing.{not_added, refusal_line, refusal_words}
+use Rattle.shell_state.specs.Stands.{Stands, Holding, Broken, Asks, Unfinished}
 use Rattle.shell_state.specs.State.{State, with_game}
 use Rattle.shell_state.specs.Work.{price, works, Work}
 use Rattle.shell_state.specs.declared.halt.Halt.{Halt}
 use Rattle.shell_state.specs.declared.halt.Halt.TheVariants as halt
 use Rattle.shell_state.specs.declared.refusing.Refusal.{Refusal}
-use Rattle.shell_state.specs.Meeting.{position_len}
+use Rattle.shell_state.specs.Meeting.{position_len, tree_hits}
 
 -- What a made game comes to, by what stands in its way.
 abbrev pub unless_refusal : Option Refusal → Adding → Made → Adding
@@ -118,12 +127,40 @@ carry_adding seen s seed i h = carry_before seen s (adding s seed i).state None 
 
 -- ---- what is shown
 
-fault_of : (s : State) (work : Work) (e : Halt) → work.body ≡ false → Broken s work e → IsFault e
-fault_of s work (halt.Device stop.Files) none broken = tt
-fault_of s work (halt.Device stop.Write) none broken = tt
-fault_of s work (halt.Device stop.Memory) none broken = tt
-fault_of s work (halt.Device stop.Read) none broken = absurd (cc)
-fault_of s work (halt.Changed game kept found) none broken = absurd broken
+fault_of : (s : State) (work : Work) (e : Halt) (text : List ℕ) (t t' : Option (List ℕ)) → work.body ≡ false → Broken s work e text t t' → IsFault e
+fault_of s work (halt.Device stop.Files) text t t' none broken = tt
+fault_of s work (halt.Device stop.Write) text t t' none broken = tt
+fault_of s work (halt.Device stop.Memory) text t t' none broken = tt
+fault_of s work (halt.Device stop.Read) text t t' none broken = absurd (cc)
+fault_of s work (halt.Changed game kept found) text t t' none broken = absurd broken
+
+-- Of a text with a byte not all was written if the files failed.
+part_of : (s : State) (work : Work) (e : Halt) (text : List ℕ) (t t' : Option (List ℕ)) → (text ≡ [] → ⊥) → Broken s work e text t t' → e ≡ halt.Device stop.Files → Unfinished true text t t'
+part_of s work e text t t' some broken is =
+    let P : Halt → Type 0 = λ h. Broken s work h text t t' in
+    let here : Broken s work (halt.Device stop.Files) text t t' = subst P is broken in
+    unfinished_by work.early text t t' some here.1
+
+-- The texts that it is made of have one.
+count_has_byte : (count games : ℕ) → count_line count games ≡ [] → ⊥
+count_has_byte count games none = absurd cc
+
+tree_has_byte : (men : Men) (side : Colour) (rows : List Row) → tree_text men side rows ≡ [] → ⊥
+unfolding tree_text
+tree_has_byte men side rows =
+    let taken : (Row → ℕ) → ℕ = λ field. sum_by field rows in
+    some_behind (flat_map (row_line men side) (in_order rows)) _
+    (some_behind (codes "total" ++ replicate (8 - length (codes "total")) 32) _ (some_behind (counts_text taken) _ (has_byte (averages_text taken) 10 [])))
+
+said_has_byte : (s : State) → tree_said s start_men White ≡ [] → ⊥
+said_has_byte s = tree_has_byte start_men White (rows_of (tree_hits at_start s.seat.filter s.shared.base.games))
+
+shown_has_byte : (s : State) → shown_text s ≡ [] → ⊥
+shown_has_byte s = some_behind (search_position_text s Ignore at_start) _ (said_has_byte (shown_after s))
+
+demo_has_byte : (refused : Option Refusal) (games plies : ℕ) (s : State) → unless_said refused games plies s ≡ [] → ⊥
+demo_has_byte (Some why) games plies s = has_byte (codes "error: " ++ refusal_words why) 10 []
+demo_has_byte None games plies s = some_behind (demo_line games plies) _ (shown_has_byte s)
 
 fault_by : (e : Halt) → IsOutput e → IsFault e
 fault_by (halt.Device stop.Write) output = tt
@@ -137,20 +174,29 @@ wrote_behind : (holding : Holding) (seen : Seen) (s : State) (front text : List 
     → Wrote holding seen s text t' t'' r → Wrote holding seen s (front ++ text) t t'' r
 wrote_behind holding seen s front text t t' t'' (Ok x) written wrote = done_after (Stands holding seen) s front text t t' t'' written wrote
 wrote_behind holding seen s front text t t' t'' (Err e) written wrote =
-    (halted_unsure (front ++ []) (front ++ text) t t'' (halted_after front [] text t t' t'' written wrote.0), wrote.1)
+    (halted_unsure (front ++ []) (front ++ text) t t'' (halted_after front [] text t t' t'' written wrote.0), wrote.1, λ is. unfinished_behind front text t t' t'' written (wrote.2 is))
 
 -- What a line of the plain machine wrote.
-wrote_by : (holding : Holding) (seen : Seen) (s : State) (work : Work) (t t' : Option (List ℕ)) (r : Result (Unit {0}) Halt) → work.body ≡ false → Serves works (Stands holding seen) Broken s work t t' r
+wrote_by : (holding : Holding) (seen : Seen) (s : State) (work : Work) (t t' : Option (List ℕ)) (r : Result (Unit {0}) Halt) → work.body ≡ false → (work.text s ≡ [] → ⊥) → Serves works (Stands holding seen) Broken s work t t' r
     → Wrote holding seen (work.after s) (work.text s) t t' r
-wrote_by holding seen s work t t' (Ok x) none served = served
-wrote_by holding seen s work t t' (Err e) none served = (served.wrote, fault_of s work e none served.broken)
+wrote_by holding seen s work t t' (Ok x) none some served = served
+wrote_by holding seen s work t t' (Err e) none some served =
+    (served.wrote, fault_of s work e (work.text s) t t' none served.broken, part_of s work e (work.text s) t t' some served.broken)
 
 -- The search was broken off.
 pub search_shows : (holding : Holding) (seen : Seen) (s : State) (query : PosQuery) (e : Halt) (t t' : Option (List ℕ)) → query ≡ at_start
-    → Cut (Broken s (search_position_work Ignore query) e) (search_position_text s Ignore query) t t' → Wrote holding seen (shown_after s) (shown_text s) t t' (Err e)
+    → Cut (Broken s (search_position_work Ignore query) e (search_position_text s Ignore query) t t') (search_position_text s Ignore query) t t' → Wrote holding seen (shown_after s) (shown_text s) t t' (Err e)
 search_shows holding seen s query e t t' is cut =
     let P : PosQuery → Type 0 = λ q. Halted [] (search_position_text s Ignore q) t t' in
-    (halted_more [] (search_position_text s Ignore at_start) (tree_said (shown_after s) start_men White) t t' (subst P is cut.wrote), fault_of s (search_position_work Ignore query) e refl cut.broken)
+    let Q : PosQuery → Type 0 = λ q. Unfinished true (search_position_text s Ignore q) t t' in
+    let text : List ℕ = search_position_text s Ignore query in
+    let plies : List (Option ℕ) = (search_position_after s Ignore query).seat.filter in
+    let tree : List ℕ = tree_said (shown_after s) start_men White in
+    let part = part_of s (search_position_work Ignore query) e text t t' (count_has_byte (count_in plies) (length plies)) cut.broken in (
+      halted_more [] (search_position_text s Ignore at_start) tree t t' (subst P is cut.wrote),
+      fault_of s (search_position_work Ignore query) e text t t' refl cut.broken,
+      λ files. unfinished_more (search_position_text s Ignore at_start) tree t t' (subst Q is (part files)),
+    )
 
 -- It was done.
 pub search_done : (holding : Holding) (seen : Seen) (s : State) (query : PosQuery) (t t' : Option (List ℕ)) → query ≡ at_start
@@ -166,7 +212,7 @@ pub tree_shows : (holding holding' : Holding) (seen seen' : Seen) (s : State) (q
 tree_shows holding holding' seen seen' s query t t' t'' r is first later =
     let P : PosQuery → Type 0 = λ q. Serves works (Stands holding' seen') Broken (shown_after s) (tree_work q.board White) t' t'' r in
     wrote_behind holding' seen' (shown_after s) (search_position_text s Ignore at_start) (tree_said (shown_after s) start_men White) t t' t'' r first.written
-    (wrote_by holding' seen' (shown_after s) (tree_work start_men White) t' t'' r refl (subst P is later))
+    (wrote_by holding' seen' (shown_after s) (tree_work start_men White) t' t'' r refl (said_has_byte (shown_after s)) (subst P is later))
 
 -- What both ask.
 search-asks : (holding : Holding) (seen : Seen) (s : State) (query : PosQuery) (a a' : ℕ) → query ≡ at_start → Stands holding seen s → Asks holding (search_position_work Ignore query) a a'
@@ -196,10 +242,10 @@ pub line_cuts : (holding : Holding) (seen : Seen) (s : State) (front line : List
     → Wrote holding seen (shown_after s) (front ++ shown_text s) t t' (Err e)
 line_cuts holding seen s front line e t t' is halted output =
     let P : List ℕ → Type 0 = λ l. Halted [] l t t' in
-    (halted_more [] front (shown_text s) t t' (subst P is halted), fault_by e output)
+    (halted_more [] front (shown_text s) t t' (subst P is halted), fault_by e output, λ files. absurd (subst IsOutput files output))
 
 pub memory_shows : (holding : Holding) (seen : Seen) (s : State) (text : List ℕ) (t : Option (List ℕ)) → Wrote holding seen s text t t (Err (halt.Device stop.Memory))
-memory_shows holding seen s text t = (halted_none text t, tt)
+memory_shows holding seen s text t = (halted_none text t, tt, λ files. cc)
 
 -- ---- the command
 
@@ -213,13 +259,18 @@ said-all s seed games sum good plies =
 after-all : (s : State) (seed games : ℕ) → (adding s seed games).refused ≡ None → demo_after s seed games ≡ shown_after (adding s seed games).state
 after-all s seed games good = ap (λ (o : Option Refusal). unless_shown o (adding s seed games).state) good
 
-serves-by : (holding : Holding) (seen : Seen) (s after : State) (work : Work) (text : List ℕ) (t t' : Option (List ℕ)) (r : Result (Unit {0}) Halt) → work.files ≡ true
+serves-by : (holding : Holding) (seen : Seen) (s after : State) (work : Work) (text : List ℕ) (t t' : Option (List ℕ)) (r : Result (Unit {0}) Halt) → work.files ≡ true → work.early ≡ true
     → work.after s ≡ after → work.text s ≡ text → Wrote holding seen after text t t' r → Serves works (Stands holding seen) Broken s work t t' r
-serves-by holding seen s after work text t t' (Ok x) asks state said wrote =
+serves-by holding seen s after work text t t' (Ok x) asks early state said wrote =
     record { stands = subst (Stands holding seen) (sym state) wrote.stands; written = wrote.written ∙ ap (adds t) (sym said) }
-serves-by holding seen s after work text t t' (Err e) asks state said wrote =
+serves-by holding seen s after work text t t' (Err e) asks early state said wrote =
     let P : List ℕ → Type 0 = λ l. Halted [] l t t' in
-    record { wrote = subst P (sym said) wrote.0; broken = broken_by_fault s work e asks wrote.1 }
+    let Q : List ℕ → Type 0 = λ l. Unfinished true l t t' in
+    let R : Bool → Type 0 = λ b. Unfinished b (work.text s) t t' in
+    record {
+      wrote = subst P (sym said) wrote.0;
+      broken = broken_by_fault s work e (work.text s) t t' asks (λ files. subst R (sym early) (subst Q (sym said) (wrote.2 files))) wrote.1;
+    }
 
 -- They are shown.
 pub demo_serves : (holding : Holding) (seen : Seen) (s : State) (seed games sum : ℕ) (t t' : Option (List ℕ)) (r : Result (Unit {0}) Halt) → (adding s seed games).refused ≡ None
@@ -227,8 +278,18 @@ pub demo_serves : (holding : Holding) (seen : Seen) (s : State) (seed games sum 
     → Wrote holding seen (shown_after (adding s seed games).state) (demo_line games sum ++ shown_text (adding s seed games).state) t t' r
     → Serves works (Stands holding seen) Broken s (demo_work seed games) t t' r
 demo_serves holding seen s seed games sum t t' r good plies wrote =
-    serves-by holding seen s (shown_after (adding s seed games).state) (demo_work seed games) (demo_line games sum ++ shown_text (adding s seed games).state) t t' r refl
+    serves-by holding seen s (shown_after (adding s seed games).state) (demo_work seed games) (demo_line games sum ++ shown_text (adding s seed games).state) t t' r refl refl
     (after-all s seed games good) (said-all s seed games sum good plies) wrote
+
+-- The adding was broken off, before anything was written.
+pub demo_cuts : (e : Halt) (s : State) (seed games : ℕ) (t : Option (List ℕ)) → IsDevice e → Cut (Broken s (demo_work seed games) e (demo_text s seed games) t t) (demo_text s seed games) t t
+demo_cuts e s seed games t device =
+    let added : Adding = adding s seed games in
+    record {
+      wrote = halted_none (demo_text s seed games) t;
+      broken = broken_by_fault s (demo_work seed games) e (demo_text s seed games) t t refl
+          (λ files. unfinished_none (demo_text s seed games) t (demo_has_byte added.refused games added.plies added.state)) (fault_of_device e device);
+    }
 
 pub demo_asks : (s : State) (seed games a a' : ℕ) → (adding s seed games).refused ≡ None → a' ≤ a + shown_price (adding s seed games).state → a' ≤ a + demo_price s seed games
 demo_asks s seed games a a' good asked =

@@ -1,6 +1,6 @@
 -- The command that adds games which are made of draws, and shows them. This project's own.
 use Rattle.std.specs.Fmt.{decimal}
-use Rattle.std.specs.Prelude.{ℕ, List, Option, None, ◌+◌, is_some, option_map, unwrap_or, if◌then◌else◌, zero, suc, ◌∷◌, ◌++◌, [], codes}
+use Rattle.std.specs.Prelude.{ℕ, true, List, Option, None, ◌+◌, is_some, option_map, unwrap_or, if◌then◌else◌, zero, suc, ◌∷◌, ◌++◌, [], codes}
 use Rattle.cell_core.specs.declared.man.Colour.TheVariants.{White}
 use Rattle.chess_laws.specs.Position.{start_men}
 use Rattle.demo_games.specs.Demo.{Made, demo_game}
@@ -76,4 +76,5 @@ abbrev pub demo_price : State → ℕ → ℕ → ℕ
 demo_price s seed games = if is_some (adding s seed games).refused then 0 else shown_price (adding s seed games).state
 
 abbrev pub demo_work : ℕ → ℕ → Work
-demo_work seed games = writing (λ s. demo_after s seed games) (λ s. demo_text s seed games) (by_state (λ s. demo_price s seed games))
+demo_work seed games =
+    record (writing (λ s. demo_after s seed games) (λ s. demo_text s seed games) (by_state (λ s. demo_price s seed games))) { early = true }

@@ -28,8 +28,8 @@ use base_core::Base;
 use base_files::{Files, Sink, Stop};
 use cell_core::{Board, Colour};
 use game_filter::Filter;
-use pos_index::{BoardHits, PosIndex};
-use pos_search::{Sought, hits_told};
+use pos_index::PosIndex;
+use pos_search::{Sought, Told, hits_told};
 use shell_state::{Halt, Machine, read_hit, write_line};
 use sig_index::{Mode, PosQuery};
 use std::alloc::{AllocError, Global};
@@ -118,7 +118,7 @@ fn read_rows<F: Files>(
     base: &Base,
     filter: &Filter,
     query: &Sought<'_>,
-    told: &mut BoardHits<'_>,
+    told: &mut Told<'_>,
     files: &mut F,
     block: &mut [u8],
 ) -> Result<Rows, Halt>
@@ -158,7 +158,7 @@ fn add_game<F: Files>(
     i: u32,
     ply: Option<u32>,
     query: &Sought<'_>,
-    told: &mut BoardHits<'_>,
+    told: &mut Told<'_>,
     files: &mut F,
     block: &mut [u8],
 ) -> Result<(), Halt>

@@ -25,8 +25,8 @@ quiet_said (Ok line) (Ok x) old new work seen s told told' quiet said st =
     record { stands = quiet.stands seen s st; written = said ∙ ap (adds told) (quiet.text seen s st) }
 quiet_said (Ok line) (Err e) old new work seen s told told' quiet said st =
     let P : List ℕ → Type 0 = λ l. Halted [] l told told' in
-    record { wrote = subst P (quiet.text seen s st) said.0; broken = broken_by_output s work e said.1 }
+    record { wrote = subst P (quiet.text seen s st) said.0; broken = broken_by_output s work e said.1 (work.text s) told told' }
 quiet_said (Err none) (Ok x) old new work seen s told told' quiet said st = absurd said
 quiet_said (Err none) (Err e) old new work seen s told told' quiet said st =
     let P : Option (List ℕ) → Type 0 = λ t. Halted [] (work.text s) told t in
-    record { wrote = subst P (sym said.0) (halted_none (work.text s) told); broken = broken_by_output s work e said.1 }
+    record { wrote = subst P (sym said.0) (halted_none (work.text s) told); broken = broken_by_output s work e said.1 (work.text s) told told' }

@@ -5,7 +5,6 @@ use Rattle.std.specs.Prelude.{IfErr}
 use Rattle.base_files.specs.Seen.{Seen}
 use Rattle.base_files.specs.Told.{adds}
 use Rattle.base_files.specs.declared.faults.Stop.TheVariants as stop
-use Rattle.block_store.specs.Placing.{IsEnd}
 use Rattle.command_runs.proofs.Joining.{halted_all, halted_none, halted_unsure}
 use Rattle.command_runs.specs.Endings.{Done, Halted, Serves}
 use Rattle.intake_commands.proofs.LastLineLaws.{line_served}
@@ -16,6 +15,7 @@ use Rattle.cell_core.specs.declared.man.Colour.{Colour}
 use Rattle.shell_commands.specs.Saying.{Said}
 use Rattle.shell_state.proofs.Causing.{broken_by_device, broken_by_output}
 use Rattle.shell_state.proofs.Served.{broken_by_body, line_serves}
+use Rattle.shell_state.proofs.Unfinishing.{unfinished_late}
 use Rattle.shell_state.specs.Ends.{IsBodyFault, IsDevice, IsOutput}
 use Rattle.shell_state.specs.Stands.{Broken, Holding, Quiet, Sound, Stands}
 use Rattle.shell_state.specs.State.{State}
@@ -44,7 +44,7 @@ shown_import {A} (Err e) new new' work line given seen s told told' told'' same 
 
 pub quiet_sound : (old new : Holding) (work : Work) (line : List ℕ) (seen : Seen) → Quiet old work new line → Sound old seen → Sound new seen
 quiet_sound old new work line seen quiet sound =
-    record { fits = quiet.fits; tables = quiet.tables sound.tables; base = quiet.base sound.base; at_end = subst (λ (end : ℕ). IsEnd end seen) (sym quiet.end) sound.at_end }
+    record { fits = quiet.fits; tables = quiet.tables sound.tables; base = quiet.base sound.base; at_end = rw quiet.end sound.at_end }
 
 pub shown_sound : {A : Type 0} (r : Result A Halt) (old new new' : Holding) (work : Work) (line : List ℕ) (seen : Seen) → OnOk r (new' ≡ new) → Quiet old work new line → Sound old seen → OnOk r (Sound new' seen)
 shown_sound (Ok x) old new new' work line seen same quiet sound = subst (λ (h : Holding). Sound h seen) (sym same) (quiet_sound old new work line seen quiet sound)
@@ -57,7 +57,7 @@ shown_behind (Ok x) new new' work seen s told told' same memory done =
     let P : Holding → Type 0 = λ h. Stands h seen (work.after s) in
     record { stands = subst P (sym same) done.stands; written = done.written }
 shown_behind (Err e) new new' work seen s told told' same memory done =
-    let P : Halt → Type 0 = λ h. Broken s work h in
+    let P : Halt → Type 0 = λ h. Broken s work h (work.text s) told told' in
     record { wrote = halted_unsure (work.text s) (work.text s) told told' (halted_all (work.text s) told told' done.written); broken = subst P (sym memory) tt }
 
 -- The games that `find` left in.
@@ -67,7 +67,7 @@ found_serves (Ok x) holding seen s board side told told' done = record { stands 
 found_serves (Err (halt.Device stop.Write)) holding seen s board side told told' cut = record { wrote = cut.wrote; broken = tt }
 found_serves (Err (halt.Device stop.Memory)) holding seen s board side told told' cut = record { wrote = cut.wrote; broken = tt }
 found_serves (Err (halt.Device stop.Read)) holding seen s board side told told' cut = absurd (true≢false (sym cut.broken))
-found_serves (Err (halt.Device stop.Files)) holding seen s board side told told' cut = absurd (true≢false (sym cut.broken))
+found_serves (Err (halt.Device stop.Files)) holding seen s board side told told' cut = absurd (true≢false (sym cut.broken.0))
 found_serves (Err (halt.Changed game kept found)) holding seen s board side told told' cut = absurd cut.broken
 
 -- ---- lines that were written, or are not there for want of memory
@@ -77,11 +77,11 @@ pub said_serves : {A E : Type 0} (answer : Result (Vec ℕ) E) (r : Result A Hal
 said_serves (Ok line) (Ok x) new work seen s told told' text stands said = record { stands = stands; written = said ∙ ap (adds told) text }
 said_serves (Ok line) (Err e) new work seen s told told' text stands said =
     let P : List ℕ → Type 0 = λ l. Halted [] l told told' in
-    record { wrote = subst P text said.0; broken = broken_by_output s work e said.1 }
+    record { wrote = subst P text said.0; broken = broken_by_output s work e said.1 (work.text s) told told' }
 said_serves (Err none) (Ok x) new work seen s told told' text stands said = absurd said
 said_serves (Err none) (Err e) new work seen s told told' text stands said =
     let P : Option (List ℕ) → Type 0 = λ t. Halted [] (work.text s) told t in
-    record { wrote = subst P (sym said.0) (halted_none (work.text s) told); broken = broken_by_output s work e said.1 }
+    record { wrote = subst P (sym said.0) (halted_none (work.text s) told); broken = broken_by_output s work e said.1 (work.text s) told told' }
 
 pub said_ok : {A E : Type 0} (P : Type 0) (answer : Result (Vec ℕ) E) (r : Result A Halt) (told told' : Option (List ℕ)) → Said answer r told told' → OnOk answer P → OnOk r P
 said_ok P (Ok line) (Ok x) told told' said p = p
@@ -91,10 +91,11 @@ said_ok P (Err none) (Err e) told told' said p = tt
 
 -- ---- what breaks off an edit
 
-pub edit_broken : {A : Type 0} (r : Result A Halt) (s : State) (work : Work) → work.files ≡ true → IfErr r IsDevice → IfErr r (λ e. Broken s work e)
-edit_broken (Ok x) s work files device = tt
-edit_broken (Err e) s work files device = broken_by_device s work e files device
+pub edit_broken : {A : Type 0} (r : Result A Halt) (s : State) (work : Work) → work.files ≡ true → work.early ≡ false → IfErr r IsDevice → IfErr r (λ e. (line : List ℕ) (told : Option (List ℕ)) → Broken s work e line told told)
+edit_broken (Ok x) s work files late device = tt
+edit_broken (Err e) s work files late device = broken_by_device s work e files late device
 
-pub body_broken : {A : Type 0} (r : Result A Halt) (s : State) (work : Work) → work.body ≡ true → work.files ≡ true → IfErr r IsBodyFault → IfErr r (λ e. Broken s work e)
-body_broken (Ok x) s work body files fault = tt
-body_broken (Err e) s work body files fault = broken_by_body s work e body files fault
+pub body_broken : {A : Type 0} (r : Result A Halt) (s : State) (work : Work) → work.body ≡ true → work.files ≡ true → work.early ≡ false → IfErr r IsBodyFault
+    → IfErr r (λ e. (line : List ℕ) (told : Option (List ℕ)) → Broken s work e line told told)
+body_broken (Ok x) s work body files late fault = tt
+body_broken (Err e) s work body files late fault = λ line told. broken_by_body s work e line told told body files (λ is. unfinished_late work.early line told late) fault

@@ -189,6 +189,12 @@ pub is_import : (command : Command) → part_of command ≡ Intake → (word : L
 is_import (Import word) is = (word, refl)
 is_import _ is = absurd cc
 
+pub searches_late : (w : Window) (command : Command) (text : List ℕ) → part_of command ≡ Searches → (command_work w command text).early ≡ false
+searches_late w (Find board side) text is = refl
+searches_late w (SearchPosition op query) text is = refl
+searches_late w (SearchMaterial op query) text is = refl
+searches_late w _ text is = absurd cc
+
 pub searches_read : (w : Window) (command : Command) (text : List ℕ) → part_of command ≡ Searches → (command_work w command text).files ≡ true
 searches_read w (Find board side) text is = refl
 searches_read w (SearchPosition op query) text is = refl

@@ -1,5 +1,5 @@
 -- The plain machine over the tasks of a script, its lines with their bodies: what each command does. This project's own.
-use Rattle.std.specs.Prelude.{ℕ, Bool, true, false, List, [], Option, IfSome, Ok, Err, length}
+use Rattle.std.specs.Prelude.{ℕ, Bool, List, [], Option, IfSome, Ok, Err, length}
 use Rattle.base_files.specs.Seen.{Seen}
 use Rattle.base_core.specs.Base.{Base}
 use Rattle.command_runs.specs.Plain.{Plain}
@@ -84,22 +84,19 @@ abbrev pub tasks : Window → Plain State Task
 tasks w = record { after = λ s t. (order_work w t.order t.body).after s; text = λ s t. (order_work w t.order t.body).text s }
 
 -- What is known of a task that was broken off.
-abbrev pub BrokenTask : Window → State → Task → Halt → Type 0
-BrokenTask w s t e = Broken s (task_work w t) e
+abbrev pub BrokenTask : Window → State → Task → Halt → List ℕ → Option (List ℕ) → Option (List ℕ) → Type 0
+BrokenTask w s t e text told told' = Broken s (task_work w t) e text told told'
 
--- Whatever its body and whoever says it: whether a line may change the files, the base that it leaves in their place, and what it asks at most.
+-- Whatever its body and whoever says it: whether a line may change the files and writes while it works, the base that it leaves in their place,
+-- and what it asks at most.
 abbrev pub order_writes : Order → Bool
 order_writes order = (order_work all_slots order []).writes
 
+abbrev pub writes_early : Order → Bool
+writes_early order = (order_work all_slots order []).early
+
 abbrev pub order_left : Order → Option (Base → Base)
 order_left order = (order_work all_slots order []).left
-
--- Whether a line writes while it works; the text of every other one goes out when its work is done.
-abbrev pub writes_early : Order → Bool
-writes_early (Ok (Import word)) = true
-writes_early (Ok Export) = true
-writes_early (Ok (Demo seed games)) = true
-writes_early _ = false
 
 -- What is known of the files if a task was broken off that leaves a base in their place: nothing of its text was written, or they carry what
 -- the state behind it says.

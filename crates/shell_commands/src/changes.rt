@@ -1,5 +1,5 @@
 //! The commands that change games, and show in the views of slots what has changed.
-ghost use Rattle.std.specs.Prelude.{◌≡◌, ◌≤◌, ◌+◌, ℕ, List, [], false, None, Some, Ok, IfErr, IfOk, OnOk, length};
+ghost use Rattle.std.specs.Prelude.{◌≡◌, ◌≤◌, ◌+◌, ℕ, List, [], false, None, Option, Some, Ok, IfErr, IfOk, OnOk, length};
 ghost use Rattle.command_runs.specs.Counts.{Causes, counts};
 ghost use Rattle.command_runs.specs.Endings.{NoneLost, Serves};
 ghost use Rattle.script_text.specs.Sound.{IsSound};
@@ -111,7 +111,7 @@ fn edit_line<F: Files, B: Source>(
     requires part { part_of command.now ≡ Edits }
     ensures line { (w : WindowValue) (s : State) (text : List ℕ) → Stands machine.old (F.seen files.old) s → B.left body.old ≡ Some text → IfOk result (λ line. line.items ≡ (command_work w command.now text).text s) }
     ensures stands { (w : WindowValue) (s : State) (text : List ℕ) → Stands machine.old (F.seen files.old) s → B.left body.old ≡ Some text → OnOk result (Stands machine.new (F.seen files.new) ((command_work w command.now text).after s)) }
-    ensures broken { (w : WindowValue) (s : State) (text : List ℕ) → Stands machine.old (F.seen files.old) s → IfErr result (λ e. Broken s (command_work w command.now text) e) }
+    ensures broken { (w : WindowValue) (s : State) (text : List ℕ) → Stands machine.old (F.seen files.old) s → IfErr result (λ e. (line : List ℕ) (told : Option (List ℕ)) → Broken s (command_work w command.now text) e line told told) }
     ensures sound { OnOk result (Sound machine.new (F.seen files.new)) }
     ensures carries { (s : State) → Stands machine.old (F.seen files.old) s → StillCarry (F.seen files.new) s (command_work all_slots command.now []).left }
     ensures choices { (F.seen files.new).choices ≡ (F.seen files.old).choices }

@@ -42,12 +42,13 @@ pub fn slots_stay()
     ensures number { (w : Window) (s : State) (t : Task) → length ((tasks w).after s t).slots ≡ length s.slots }
 {}
 
-/// A law: whoever says a line, it uses the files, changes them and reads a body alike, leaves the same base in their place, and has the same
-/// price.
+/// A law: whoever says a line, it writes while it works, uses the files, changes them and reads a body alike, leaves the same base in their
+/// place, and has the same price.
 pub fn lines_of_any_user()
     ensures files { (w : Window) (order : Order) (body : List ℕ) → (order_work w order body).files ≡ (order_work all_slots order body).files }
     ensures writes { (w : Window) (order : Order) (body : List ℕ) → (order_work w order body).writes ≡ (order_work all_slots order body).writes }
     ensures body { (w : Window) (order : Order) (body : List ℕ) → (order_work w order body).body ≡ (order_work all_slots order body).body }
+    ensures early { (w : Window) (order : Order) (body : List ℕ) → (order_work w order body).early ≡ (order_work all_slots order body).early }
     ensures left { (w : Window) (order : Order) (body : List ℕ) → (order_work w order body).left ≡ (order_work all_slots order body).left }
     ensures price { (w : Window) (order : Order) (body : List ℕ) → (order_work w order body).price ≡ (order_work all_slots order body).price }
 {}

@@ -46,11 +46,10 @@ use Rattle.script_text.specs.Tasks.{Order, body_word, task}
 use Rattle.script_text.specs.declared.command.Command.TheVariants.{Import, Replace, Eco}
 use Rattle.report_commands.specs.Classifying.{state_by}
 use Rattle.shell_commands.proofs.SlotLaws.{task_stays}
-use Rattle.shell_commands.specs.Tasks.{order_left, tasks, writes_early}
+use Rattle.shell_commands.specs.Tasks.{order_left, tasks}
 use Rattle.intake_commands.specs.Importing.{Intake, intake, item_after, none_taken, state_with, the_new}
 use Rattle.intake_commands.proofs.ByCase.{unless_not_added}
 use Rattle.shell_state.specs.Carrying.{Settled}
-use Rattle.shell_state.specs.Ends.{Unsaid}
 use Rattle.shell_state.specs.Slots.{Slot, slot_at}
 use Rattle.shell_state.specs.Stands.{WhyHalt}
 use Rattle.shell_state.specs.Refusing.{not_added}
@@ -511,28 +510,28 @@ must_stick word reader l b f p l' b' f' r st is rose = none_rose r (subst (λ (n
 
 pub body_halts : (end : Halt) (stuck : Option ReadError) (line : Line) (word ahead : List ℕ) (reader : Reader) (l : Option (List ℕ)) (b f : ℕ) (p : Place) (l' : Option (List ℕ)) (b' f' : ℕ) (d : Desk) (around' : Around) (t t' : Option (List ℕ)) (a a' x x' r k k' : ℕ)
     → p.stuck ≡ stuck → InBody line word ahead reader l b f p l' b' f' → Halted [] (desks.text d (tagged_task line (body_of word true ahead).bytes)) t t'
-    → BrokenLine d (tagged_task line (body_of word true ahead).bytes) end → (writes_early line.order ≡ false → Unsaid end t t') → Remains around' d line → WhyHalt end (counts x r k) (counts x' p.refused k') → a' ≤ a + line_price d line
+    → BrokenLine d (tagged_task line (body_of word true ahead).bytes) end (desks.text d (tagged_task line (body_of word true ahead).bytes)) t t' → Remains around' d line → WhyHalt end (counts x r k) (counts x' p.refused k') → a' ≤ a + line_price d line
     → Halts (status_in_body end stuck) around' line d ahead reader.used l' t t' a a'
-body_halts (halt.Device stop.Read) (Some e) line word ahead reader l b f p l' b' f' d around' t t' a a' x x' r k k' is at wrote broken unsaid remains why asked =
+body_halts (halt.Device stop.Read) (Some e) line word ahead reader l b f p l' b' f' d around' t t' a a' x x' r k k' is at wrote broken remains why asked =
     halts_stuck e line word ahead reader l b f p l' b' f' d around' t t' a a' is at wrote remains asked
-body_halts (halt.Device stop.Read) None line word ahead reader l b f p l' b' f' d around' t t' a a' x x' r k k' is at wrote broken unsaid remains why asked =
+body_halts (halt.Device stop.Read) None line word ahead reader l b f p l' b' f' d around' t t' a a' x x' r k k' is at wrote broken remains why asked =
     absurd (must_stick word reader l b f p l' b' f' r at.stands is why)
-body_halts (halt.Device stop.Files) stuck line word ahead reader l b f p l' b' f' d around' t t' a a' x x' r k k' is at wrote broken unsaid remains why asked = record {
-  stopped = (body_cut line word ahead d around' t t' FilesFault at.has (record { wrote = wrote; broken = breaks_by _ _ _ _ _ _ (broken, λ late. unsaid late refl) remains (body_settled around'.seen d line (body_of word true ahead).bytes word t t' at.has) })).0;
+body_halts (halt.Device stop.Files) stuck line word ahead reader l b f p l' b' f' d around' t t' a a' x x' r k k' is at wrote broken remains why asked = record {
+  stopped = (body_cut line word ahead d around' t t' FilesFault at.has (record { wrote = wrote; broken = breaks_by _ _ _ _ _ _ broken remains (body_settled around'.seen d line (body_of word true ahead).bytes word t t' at.has) })).0;
   lines = tt;
   asks = body_paid line word ahead d a a' at.has asked;
 }
-body_halts (halt.Device stop.Write) stuck line word ahead reader l b f p l' b' f' d around' t t' a a' x x' r k k' is at wrote broken unsaid remains why asked = record {
+body_halts (halt.Device stop.Write) stuck line word ahead reader l b f p l' b' f' d around' t t' a a' x x' r k k' is at wrote broken remains why asked = record {
   stopped = (body_cut line word ahead d around' t t' WriteFault at.has (record { wrote = wrote; broken = breaks_by _ _ _ _ _ _ tt remains (body_settled around'.seen d line (body_of word true ahead).bytes word t t' at.has) })).0;
   lines = tt;
   asks = body_paid line word ahead d a a' at.has asked;
 }
-body_halts (halt.Device stop.Memory) stuck line word ahead reader l b f p l' b' f' d around' t t' a a' x x' r k k' is at wrote broken unsaid remains why asked = record {
+body_halts (halt.Device stop.Memory) stuck line word ahead reader l b f p l' b' f' d around' t t' a a' x x' r k k' is at wrote broken remains why asked = record {
   stopped = (body_cut line word ahead d around' t t' Memory at.has (record { wrote = wrote; broken = breaks_by _ _ _ _ _ _ tt remains (body_settled around'.seen d line (body_of word true ahead).bytes word t t' at.has) })).0;
   lines = tt;
   asks = body_paid line word ahead d a a' at.has asked;
 }
-body_halts (halt.Changed game kept found) stuck line word ahead reader l b f p l' b' f' d around' t t' a a' x x' r k k' is at wrote broken unsaid remains why asked = absurd broken
+body_halts (halt.Changed game kept found) stuck line word ahead reader l b f p l' b' f' d around' t t' a a' x x' r k k' is at wrote broken remains why asked = absurd broken
 
 -- Nothing of it was read, since memory ran out.
 pub body_short : (line : Line) (word ahead : List ℕ) (held : DeskHolding) (around : Around) (d : Desk) (used : ℕ) (l t : Option (List ℕ)) (a : ℕ) → body_word line.order ≡ Some word → Lives held around d

@@ -28,8 +28,7 @@ use Rattle.script_text.specs.Words.{cut}
 use Rattle.script_text.specs.declared.command.Command.TheVariants.{Quit}
 use Rattle.desk_commands.specs.Desk.{Desk, desks}
 use Rattle.desk_commands.specs.Standing.{BrokenLine, DeskHolding, SettledLine, line_left}
-use Rattle.shell_commands.specs.Tasks.{order_writes, writes_early}
-use Rattle.shell_state.specs.Ends.{Unsaid}
+use Rattle.shell_commands.specs.Tasks.{order_writes}
 use Rattle.shell_state.specs.Stands.{WhyHalt}
 use Rattle.shell_state.specs.declared.halt.Halt.{Halt}
 use Rattle.shell_state.specs.declared.halt.Halt.TheVariants as halt
@@ -577,14 +576,14 @@ paid_done d bytes t₀ held around reader l t a₀ a ran =
 -- ---- one line
 
 -- A line without a body that was broken off.
-pub interrupted : (halt : Halt) (around' : Around) (d : Desk) (next : Tagged) (t t' : Option (List ℕ)) → body_word next.task.order ≡ None → Cut (BrokenLine d next halt) (desks.text d next) t t' → Remains around' d (its_line next)
-    → SettledLine around'.seen d next t t' → (writes_early next.task.order ≡ false → Unsaid halt t t') → Interrupted (status_of_halt halt) around' d next t t'
-interrupted (halt.Device stop.Files) around' d next t t' none broken_off remains settled unsaid = record { cut = record { wrote = broken_off.wrote; broken = breaks_by _ _ _ _ _ _ (broken_off.broken, λ late. unsaid late refl) remains settled }; in_line = tt }
-interrupted (halt.Device stop.Write) around' d next t t' none broken_off remains settled unsaid = record { cut = record { wrote = broken_off.wrote; broken = breaks_by _ _ _ _ _ _ tt remains settled }; in_line = tt }
-interrupted (halt.Device stop.Memory) around' d next t t' none broken_off remains settled unsaid = record { cut = record { wrote = broken_off.wrote; broken = breaks_by _ _ _ _ _ _ tt remains settled }; in_line = tt }
-interrupted (halt.Device stop.Read) around' d next t t' none broken_off remains settled unsaid =
+pub interrupted : (halt : Halt) (around' : Around) (d : Desk) (next : Tagged) (t t' : Option (List ℕ)) → body_word next.task.order ≡ None → Cut (BrokenLine d next halt (desks.text d next) t t') (desks.text d next) t t' → Remains around' d (its_line next)
+    → SettledLine around'.seen d next t t' → Interrupted (status_of_halt halt) around' d next t t'
+interrupted (halt.Device stop.Files) around' d next t t' none broken_off remains settled = record { cut = record { wrote = broken_off.wrote; broken = breaks_by _ _ _ _ _ _ broken_off.broken remains settled }; in_line = tt }
+interrupted (halt.Device stop.Write) around' d next t t' none broken_off remains settled = record { cut = record { wrote = broken_off.wrote; broken = breaks_by _ _ _ _ _ _ tt remains settled }; in_line = tt }
+interrupted (halt.Device stop.Memory) around' d next t t' none broken_off remains settled = record { cut = record { wrote = broken_off.wrote; broken = breaks_by _ _ _ _ _ _ tt remains settled }; in_line = tt }
+interrupted (halt.Device stop.Read) around' d next t t' none broken_off remains settled =
     let e : false ≡ true = sym (alone_line d next none) ∙ broken_off.broken in cc
-interrupted (halt.Changed game kept found) around' d next t t' none broken_off remains settled unsaid = absurd broken_off.broken
+interrupted (halt.Changed game kept found) around' d next t t' none broken_off remains settled = absurd broken_off.broken
 
 pub none_rose : Rose 0 0 → ⊥
 none_rose (inl rose) = absurd (omega (arith, rose))

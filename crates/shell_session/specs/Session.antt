@@ -16,8 +16,10 @@ use Rattle.desk_commands.specs.Standing.{effective, line_left, line_price}
 use Rattle.desk_commands.specs.Views.{line_told}
 use Rattle.script_lines.specs.Clients.{Tagged, said}
 use Rattle.script_lines.specs.Script.{longest_script, piece_len, script_len, script_of, whole_lines}
-use Rattle.shell_commands.specs.Tasks.{order_work, writes_early}
+use Rattle.shell_commands.specs.Tasks.{order_work}
 use Rattle.shell_state.specs.Carrying.{AreLeft, Settled, StillCarry}
+use Rattle.shell_state.specs.Stands.{Unfinished}
+use Rattle.shell_state.specs.Work.{Work}
 use Rattle.view_commands.specs.Views.{all_slots}
 use Rattle.shell_session.specs.Around.{Around, AreBeside, AreLeftBy, Views, slots_by, summed}
 use Rattle.shell_session.specs.Words.{Wanted, words_read}
@@ -86,11 +88,12 @@ pub record RanAll (d : Desk) (script : List ℕ) (told : Option (List ℕ)) (tol
       AreBeside (record around' { most = λ k. around'.most k + summed (λ d next. line_told d next k) d (script_of d.clients.tagged script) })
       (after_all desks d (script_of d.clients.tagged script))
 
--- What is known of the line that a status breaks off. The files fail only at a line that uses them. Nothing of it was
--- written then, unless it writes while it works. No told record was changed.
+-- What is known of the line that a status breaks off. The files fail only at a line that uses them. Nothing of its text
+-- was written then, or not all of it if it writes while it works. No told record was changed.
 abbrev pub BrokenBy : Status → Desk → Tagged → Option (List ℕ) → Option (List ℕ) → Type 0
 BrokenBy FilesFault d next told told' =
-    IsTrue (order_work all_slots (effective d.clients next.client next.task.order) next.task.body).files × (writes_early next.task.order ≡ false → told' ≡ told)
+    let work : Work = order_work all_slots (effective d.clients next.client next.task.order) next.task.body in
+    IsTrue work.files × Unfinished work.early (desks.text d next) told told'
 BrokenBy (Changed game kept found) d next told told' = ⊥
 BrokenBy _ d next told told' = ⊤
 

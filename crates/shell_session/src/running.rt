@@ -14,13 +14,12 @@ ghost use Rattle.script_lines.specs.Standing.{Standing, left_of};
 ghost use Rattle.script_lines.specs.Script.{longest_script, piece_len, script_of};
 ghost use Rattle.script_text.specs.Sound.{IsSoundLine};
 ghost use Rattle.script_text.specs.Tasks.{body_word};
-ghost use Rattle.shell_commands.specs.Tasks.{order_writes, writes_early};
+ghost use Rattle.shell_commands.specs.Tasks.{order_writes};
 ghost use Rattle.shell_session.specs.Around.{AreLeftBy, Lives, Views, around, meanings, price_all, told_all, told_more};
 ghost use Rattle.shell_session.specs.Running.{BodyDone, GoneOn, Halts, Interrupted, Kept, LastDid, LastHalts, LineDone, Stops, added, behind_at, last_tasks};
 ghost use Rattle.shell_session.specs.Session.{RanAll, RanPart};
 ghost use Rattle.session_status.specs.Stops.{status_in_body};
 ghost use Rattle.shell_state.specs.Carrying.{StillCarry};
-ghost use Rattle.shell_state.specs.Ends.{Unsaid};
 ghost use Rattle.shell_state.specs.Stands.{WhyHalt};
 
 use base_files::{Failed, Files, Sink, Source, Stop};
@@ -253,7 +252,6 @@ fn serve_in<B: Begins, F: Files, S: Source, K: Sink>(
     ensures unchanged { order_writes line.now.order ≡ false → F.seen files.new ≡ F.seen files.old }
     ensures choices { (F.seen files.new).choices ≡ (F.seen files.old).choices }
     ensures asks { (d : PlainDesk) (first : Views) (most : ℕ → ℕ) → Lives desk.old (around (F.seen files.old) first most (meanings (λ b. rows b) (λ b. told b) views.old)) d → F.asked files.new ≤ F.asked files.old + line_price d line.now }
-    ensures unsaid { writes_early line.now.order ≡ false → IfErr result (λ e. Unsaid e (K.taken out.old) (K.taken out.new)) }
     ensures none_lost { NoneLost (K.taken out.old) (K.taken out.new) }
     ensures number { length views.new ≡ length views.old }
     ensures causes { Causes WhyHalt result (counts (F.faults files.old) place.old.refused (K.faults out.old)) (counts (F.faults files.new) place.new.refused (K.faults out.new)) }

@@ -1,12 +1,13 @@
 -- Laws of causes: a part that has one device alone has the causes of a command that has all.
-use Rattle.std.proofs.Common.{inl, inr, arith, ℕ, ◌≡◌, true, ◌≤◌, List, Option, Result, Ok, Err}
+use Rattle.std.proofs.Common.{inl, inr, arith, ℕ, ◌≡◌, refl, true, false, ◌≤◌, List, Option, Result, Ok, Err}
 use Rattle.std.specs.Prelude.{IfErr}
 use Rattle.base_files.specs.Counters.{Rose}
 use Rattle.base_files.specs.declared.faults.Stop.{Stop}
 use Rattle.base_files.specs.declared.faults.Stop.TheVariants as stop
 use Rattle.command_runs.specs.Counts.{counts, Why, Causes}
 use Rattle.shell_state.specs.Ends.{IsOutput, IsDevice, IsFault, Unsaid}
-use Rattle.shell_state.specs.Stands.{Broken, WhyHalt}
+use Rattle.shell_state.proofs.Unfinishing.{unfinished_late}
+use Rattle.shell_state.specs.Stands.{Broken, Unfinished, WhyHalt}
 use Rattle.shell_state.specs.State.{State}
 use Rattle.shell_state.specs.Work.{Work}
 use Rattle.shell_state.specs.declared.halt.Halt.{Halt}
@@ -25,20 +26,20 @@ output_of stop.Files a b why = none_rose why
 output_of stop.Memory a b why = tt
 
 -- What breaks off a write may break off any line.
-pub broken_by_output : (s : State) (work : Work) (e : Halt) → IsOutput e → Broken s work e
-broken_by_output s work (halt.Device stop.Write) output = tt
-broken_by_output s work (halt.Device stop.Memory) output = tt
-broken_by_output s work (halt.Device stop.Read) output = absurd output
-broken_by_output s work (halt.Device stop.Files) output = absurd output
-broken_by_output s work (halt.Changed game kept found) output = absurd output
+pub broken_by_output : (s : State) (work : Work) (e : Halt) → IsOutput e → (text : List ℕ) (told told' : Option (List ℕ)) → Broken s work e text told told'
+broken_by_output s work (halt.Device stop.Write) output text told told' = tt
+broken_by_output s work (halt.Device stop.Memory) output text told told' = tt
+broken_by_output s work (halt.Device stop.Read) output text told told' = absurd output
+broken_by_output s work (halt.Device stop.Files) output text told told' = absurd output
+broken_by_output s work (halt.Changed game kept found) output text told told' = absurd output
 
--- What breaks off a search may break off a line that asks the files.
-pub broken_by_device : (s : State) (work : Work) (e : Halt) → work.files ≡ true → IsDevice e → Broken s work e
-broken_by_device s work (halt.Device stop.Files) asks device = asks
-broken_by_device s work (halt.Device stop.Memory) asks device = tt
-broken_by_device s work (halt.Device stop.Write) asks device = absurd device
-broken_by_device s work (halt.Device stop.Read) asks device = absurd device
-broken_by_device s work (halt.Changed game kept found) asks device = absurd device
+-- What breaks off a search may break off a line that asks the files, before its text goes out.
+pub broken_by_device : (s : State) (work : Work) (e : Halt) → work.files ≡ true → work.early ≡ false → IsDevice e → (text : List ℕ) (told : Option (List ℕ)) → Broken s work e text told told
+broken_by_device s work (halt.Device stop.Files) asks late device text told = (asks, unfinished_late work.early text told late)
+broken_by_device s work (halt.Device stop.Memory) asks late device text told = tt
+broken_by_device s work (halt.Device stop.Write) asks late device text told = absurd device
+broken_by_device s work (halt.Device stop.Read) asks late device text told = absurd device
+broken_by_device s work (halt.Changed game kept found) asks late device text told = absurd device
 
 -- Where the files are not used, they break nothing off.
 pub unsaid_without : {A : Type 0} (r : Result A Halt) (i i' o o' : ℕ) (told told' : Option (List ℕ)) → Causes WhyHalt r (counts 0 i o) (counts 0 i' o') → IfErr r (λ (e : Halt). Unsaid e told told')
@@ -83,12 +84,13 @@ causes_search (Err e) f f' a c =
     record { none_fell = record { files = c.none_fell.files; input = c.none_fell.input; output = omega arith }; why = why_search e f f' a c.why }
 
 -- What breaks off a command that writes games may break off a line that asks the files.
-pub broken_by_fault : (s : State) (work : Work) (e : Halt) → work.files ≡ true → IsFault e → Broken s work e
-broken_by_fault s work (halt.Device stop.Files) asks fault = asks
-broken_by_fault s work (halt.Device stop.Write) asks fault = tt
-broken_by_fault s work (halt.Device stop.Memory) asks fault = tt
-broken_by_fault s work (halt.Device stop.Read) asks fault = absurd fault
-broken_by_fault s work (halt.Changed game kept found) asks fault = absurd fault
+pub broken_by_fault : (s : State) (work : Work) (e : Halt) (text : List ℕ) (told told' : Option (List ℕ)) → work.files ≡ true → (e ≡ halt.Device stop.Files → Unfinished work.early text told told') → IsFault e
+    → Broken s work e text told told'
+broken_by_fault s work (halt.Device stop.Files) text told told' asks part fault = (asks, part refl)
+broken_by_fault s work (halt.Device stop.Write) text told told' asks part fault = tt
+broken_by_fault s work (halt.Device stop.Memory) text told told' asks part fault = tt
+broken_by_fault s work (halt.Device stop.Read) text told told' asks part fault = absurd fault
+broken_by_fault s work (halt.Changed game kept found) text told told' asks part fault = absurd fault
 
 -- What breaks off a part of a game's text.
 pub fault_of_output : (e : Halt) → IsOutput e → IsFault e

@@ -3,6 +3,7 @@ pub mod PassingLaws
 pub mod PriceLaws
 pub mod IndexLaws
 pub mod CarryLaws
+pub mod Unfinishing
 pub mod Causing
 pub mod EditedLaws
 pub mod AddingLaws

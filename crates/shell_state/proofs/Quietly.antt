@@ -14,6 +14,10 @@ use Rattle.shell_state.specs.State.{State, with_seat}
 use Rattle.shell_state.specs.Work.{Work}
 use Rattle.tree_live.specs.Watching.{Watched}
 
+-- The end of the base stays that of the games file where neither moves.
+pub end_stays : {end end' : ℕ} {seen seen' : Seen} → end' ≡ end → seen' ≡ seen → IsEnd end seen → IsEnd end' seen'
+end_stays same unchanged at_end = rw (same, unchanged) at_end
+
 -- What is held, by its parts.
 abbrev pub held_by : Kept → Tables → List (Option ℕ) → List SavedFilter → Holding
 held_by kept tables filter saved = record { kept = kept; tables = tables; seat = record { filter = filter; saved = saved } }
@@ -51,7 +55,7 @@ found_sound kept tables filter later saved seen seen' sound same unchanged = rec
   fits = fits_by (held_by kept tables filter saved) (held_by kept tables later saved) refl refl same sound.fits;
   tables = sound.tables;
   base = sound.base;
-  at_end = subst (λ (x : Seen). IsEnd kept.end x) (sym unchanged) sound.at_end;
+  at_end = end_stays refl unchanged sound.at_end;
 }
 
 -- The tables fit where they and the base are as before.

@@ -1,12 +1,13 @@
 -- How the machine stands for a plain state, beside the files of its base. This project's own.
 use Rattle.std.specs.Bool.{MatchBool}
-use Rattle.std.specs.Prelude.{ℕ, List, ◌≡◌, Option, Some, None, IfSome, length, replicate, ⊤, IsTrue, slice_get, [], ◌∷◌, Bool, false, ◌+◌, map, option_map, ◌≤◌}
+use Rattle.std.specs.Prelude.{ℕ, List, ◌≡◌, Option, Some, None, IfSome, length, replicate, ⊤, IsTrue, slice_get, [], ◌∷◌, ◌++◌, Bool, true, false, ◌+◌, map, option_map, ◌≤◌}
 use Rattle.base_core.specs.Base.{Base, Held}
 use Rattle.base_core.specs.Entries.{head_of, sig_in}
 use Rattle.base_core.specs.Means.{Means}
 use Rattle.base_core.specs.Represents.{Kept, Represents, IsSound}
 use Rattle.base_files.specs.Counters.{raised}
 use Rattle.base_files.specs.Seen.{Seen}
+use Rattle.base_files.specs.Told.{Grew, adds}
 use Rattle.base_files.specs.declared.faults.Stop.TheVariants as stop
 use Rattle.block_store.specs.Placing.{IsEnd}
 use Rattle.command_runs.specs.Counts.{Counts, Why}
@@ -91,14 +92,19 @@ pub record Quiet (old : Holding) (work : Work) (new : Holding) (line : List ℕ)
   pub base : IsSound old.kept → IsSound new.kept
   pub end : new.kept.end ≡ old.kept.end
 
+-- What was written of a text if the files failed: nothing, or not all of one that goes out while its command works.
+abbrev pub Unfinished : Bool → List ℕ → Option (List ℕ) → Option (List ℕ) → Type 0
+Unfinished false text told told' = told' ≡ told
+Unfinished true text told told' = (front : List ℕ) × (byte : ℕ) × (rest : List ℕ) × (text ≡ front ++ byte ∷ rest) × Grew told' (adds told front)
+
 -- What is known of a command that was broken off in a state: the input fails only at one that reads a body, the files only at one that uses
--- them, and told files never change.
-abbrev pub Broken : State → Work → Halt → Type 0
-Broken s work (halt.Device stop.Read) = IsTrue work.body
-Broken s work (halt.Device stop.Files) = IsTrue work.files
-Broken s work (halt.Device stop.Write) = ⊤
-Broken s work (halt.Device stop.Memory) = ⊤
-Broken s work (halt.Changed game kept found) = ⊥
+-- them, and told files never change. If the files fail, its text is unfinished.
+abbrev pub Broken : State → Work → Halt → List ℕ → Option (List ℕ) → Option (List ℕ) → Type 0
+Broken s work (halt.Device stop.Read) text told told' = IsTrue work.body
+Broken s work (halt.Device stop.Files) text told told' = IsTrue work.files × Unfinished work.early text told told'
+Broken s work (halt.Device stop.Write) text told told' = ⊤
+Broken s work (halt.Device stop.Memory) text told told' = ⊤
+Broken s work (halt.Changed game kept found) text told told' = ⊥
 
 -- The cause of an early end: a device counted a fault, or a record has another signature than the kept one, or none.
 abbrev pub WhyHalt : Halt → Counts → Counts → Type 0

@@ -40,11 +40,12 @@ abbrev pub price_by : Price → State → ℕ
 price_by (by_looks price) s = price (looks_of s.shared) s.seat.filter
 price_by (by_state price) s = price s
 
--- What a command makes of a state, and the text that it writes. It also has whether the command uses the files, may
--- change them, and reads a body. Then come the base that it leaves in their place, if it replaces them, and its price.
+-- What a command makes of a state, and the text that it writes. It also has whether the text goes out while the command
+-- works, and whether the command uses the files, may change them, and reads a body. Then come the base that it leaves in their place, if it replaces them, and its price.
 pub record Work : Type 0 where
   pub after : State → State
   pub text : State → List ℕ
+  pub early : Bool
   pub files : Bool
   pub writes : Bool
   pub body : Bool
@@ -60,13 +61,13 @@ price s work = price_by work.price s
 
 -- A command that uses no file, one that changes the seat alone, one that reads games, and one that adds to the games file.
 abbrev pub quiet : (State → State) → (State → List ℕ) → Work
-quiet after text = record { after = after; text = text; files = false; writes = false; body = false; left = None; price = by_looks (λ looks plies. 0) }
+quiet after text = record { after = after; text = text; early = false; files = false; writes = false; body = false; left = None; price = by_looks (λ looks plies. 0) }
 
 abbrev pub seated : (Seat → Seat) → (Seat → List ℕ) → Work
 seated after text = quiet (λ s. with_seat s (after s.seat)) (λ s. text s.seat)
 
 abbrev pub reading : (State → State) → (State → List ℕ) → (List Look → List (Option ℕ) → ℕ) → Work
-reading after text price = record { after = after; text = text; files = true; writes = false; body = false; left = None; price = by_looks price }
+reading after text price = record { after = after; text = text; early = false; files = true; writes = false; body = false; left = None; price = by_looks price }
 
 abbrev pub writing : (State → State) → (State → List ℕ) → Price → Work
-writing after text price = record { after = after; text = text; files = true; writes = true; body = false; left = None; price = price }
+writing after text price = record { after = after; text = text; early = false; files = true; writes = true; body = false; left = None; price = price }

@@ -23,8 +23,7 @@ use base_core::Base;
 use base_files::Files;
 use cell_core::{Colour, Move, PackedBoard, unpack};
 use game_tree::{Game, Head};
-use pos_index::BoardHits;
-use pos_search::{Sought, hit_sought, next_in};
+use pos_search::{Sought, Told, hit_sought, next_in};
 use sig_index::Games;
 use tree_live::Slots;
 use tree_rows::GameHit;
@@ -86,7 +85,7 @@ pub fn read_hit<F: Files>(
     base: &Base,
     i: u32,
     query: &Sought<'_>,
-    told: &mut BoardHits<'_>,
+    told: &mut Told<'_>,
     files: &mut F,
     block: &mut [u8],
 ) -> Result<Option<GameHit>, Halt>

@@ -1,6 +1,7 @@
 //! The machine that runs commands.
 ghost use Rattle.std.specs.Prelude.{◌≡◌, ◌≤◌, ◌<◌, ◌+◌, length, None, IfOk, IfErr, OnOk, MatchOption};
 ghost use Rattle.base_core.specs.Represents.{IsSound};
+ghost use Rattle.base_files.specs.declared.faults.Stop.TheVariants as stop;
 ghost use Rattle.command_runs.specs.Counts.{Causes, counts};
 ghost use Rattle.filter_seat.specs.Seats.{first_seat};
 ghost use Rattle.game_tree.specs.Head.{IsBounded};
@@ -12,6 +13,7 @@ ghost use Rattle.shell_state.specs.Ends.{IsDevice};
 ghost use Rattle.shell_state.specs.Refusing.{index_is_full};
 ghost use Rattle.shell_state.specs.Stands.{Begins, Sound, Stands, WhyHalt, depth_of, no_tables};
 ghost use Rattle.shell_state.specs.State.{State};
+ghost use Rattle.shell_state.specs.declared.halt.Halt.TheVariants as halt;
 
 use crate::halt::Halt;
 use crate::hits::hits_of;
@@ -133,6 +135,7 @@ impl Machine {
         ensures adds { (s : State) → Stands self.old (F.seen files.old) s → IfOk result (Adds self.new (F.seen files.new) s head.now game.now) }
         ensures sound { OnOk result (Sound self.new (F.seen files.new)) }
         ensures devices { IfErr result IsDevice }
+        ensures kept { IfErr result (λ e. e ≡ halt.Device stop.Files → self.new ≡ self.old) }
         ensures carries { (s : State) → Stands self.old (F.seen files.old) s → StillCarry (F.seen files.new) s None }
         ensures choices { (F.seen files.new).choices ≡ (F.seen files.old).choices }
         ensures none_asked { F.asked files.new ≡ F.asked files.old }

@@ -11,12 +11,12 @@ ghost use Rattle.sig_index.specs.Signature.{IsSig, IsSigBounded, all_homes, home
 use crate::leaving::Still;
 use crate::signature::{HomeList, Sig, home_list, material_of};
 use arrayvec::ArrayVec;
-use game_codec::{Reading, RecordFault};
+use game_codec::{MainPlace, Reading, RecordFault};
 use index_entry::count_code;
 
 /// The signature of the game that the bytes are a record of, or their first fault. The record is read once, and no memory is taken. A
-/// record has fewer than 2^32 bytes.
-pub fn signed(bytes: &[u8]) -> Result<Sig, RecordFault>
+/// record has fewer than 2^32 bytes. Calls for many records lend the same place.
+pub fn signed(bytes: &[u8], main: &mut MainPlace) -> Result<Sig, RecordFault>
     requires few { length bytes.now < 2 ^ 32 }
     // The bytes are a record, and the signature is that of its game.
     ensures signed { IfOk result (λ sig. (tags : List TagValue) × ((game : GameTree) × (IsRecord bytes.now tags game × IsSig game sig))) }
@@ -25,7 +25,7 @@ pub fn signed(bytes: &[u8]) -> Result<Sig, RecordFault>
     // Each record has one.
     ensures only { (tags : List TagValue) (game : GameTree) → IsRecord bytes.now tags game → MatchResult result (IsSig game) (λ _. ⊥) }
 {
-    let mut reading = Reading::new(bytes)?;
+    let mut reading = Reading::new(bytes, main)?;
     let own_start = !reading.position().is_start();
     let home = left_along(&mut reading, own_start)?;
     let material = material_of(reading.position());

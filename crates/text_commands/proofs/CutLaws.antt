@@ -121,4 +121,4 @@ page_unwritten {A = A} r e plies games told told' waits page page' none ends kep
     let Q : Option (List ℕ) → Type 0 = λ t. Grew told' t in
     let within : Grew told' (adds told (exported plies games)) =
     Grew-trans told' waits (adds told (exported plies games)) (subst Q kept (Grew-adds told' page')) (put_within r plies games told waits (subst P first ends)) in
-    (cut_somewhere e plies games told told' output (lost told (Grew-refl told)) within, fault_of_output e output)
+    (cut_somewhere e plies games told told' output (lost told (Grew-refl told)) within, fault_of_output e output, λ is. absurd (no_files e output is))

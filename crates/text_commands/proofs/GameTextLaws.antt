@@ -1,8 +1,8 @@
 -- Laws of `show` and `export`.
-use Rattle.std.proofs.Common.{◌≡◌, ◌≤◌, ℕ, List, length, Ok, refl, sym, ap, ◌∙◌, arith, subst, [], Option, Result, Err, OnOk, ◌<◌, Some, ◌+◌, ◌++◌, take, append-nil, drop, zero, suc, ◌∷◌, add-one}
+use Rattle.std.proofs.Common.{◌≡◌, ◌≤◌, ℕ, List, length, Ok, refl, sym, ap, ◌∙◌, arith, subst, [], Option, Result, Err, OnOk, ◌<◌, true, None, Some, ◌+◌, ◌++◌, take, append-nil, drop, zero, suc, ◌∷◌, add-one}
 use Rattle.std.proofs.lemmas.List.{take_all}
 use Rattle.std.proofs.lemmas.Option.{slice_get_past, same_Some}
-use Rattle.std.specs.Prelude.{IfErr, slice_get, IfSome}
+use Rattle.std.specs.Prelude.{IfErr, IsTrue, flat_map, is_some, slice_get, IfSome}
 use Rattle.base_core.proofs.Lists.{get_some}
 use Rattle.base_core.specs.Base.{Held, Base}
 use Rattle.base_core.specs.GameAt.{IsGameAt, IsShown}
@@ -18,15 +18,19 @@ use Rattle.game_tree.specs.Game.{GameTree}
 use Rattle.game_tree.specs.Legal.{IsLegalGame}
 use Rattle.game_tree.specs.declared.head.Head.{Head}
 use Rattle.index_entry.specs.declared.entry.Entry.{Entry}
+use Rattle.pgn_write.specs.Layout.{layout}
 use Rattle.pgn_write.specs.Pgn.{pgn_of}
+use Rattle.pgn_write.specs.TagPairs.{tag_text, tags_of}
+use Rattle.pgn_write.specs.Tokens.{tokens_of}
 use Rattle.pos_index.specs.Hits.{rows_told}
 use Rattle.shell_state.proofs.Causing.{fault_of_output, fault_of_device, broken_by_fault}
 use Rattle.shell_state.proofs.PriceLaws.{filtered_looks, len_looks}
 use Rattle.shell_state.proofs.Served.{line_serves}
+use Rattle.shell_state.proofs.Unfinishing.{has_byte, unfinished_at, unfinished_more}
 use Rattle.shell_state.specs.Ends.{IsOutput, IsDevice, IsFault}
 use Rattle.shell_state.specs.Lines.{no_game_line, texts_from}
 use Rattle.shell_state.specs.Passing.{len_if_in, len_in, filtered_len}
-use Rattle.shell_state.specs.Stands.{Holding, Stands, Broken, len_at, looks_in}
+use Rattle.shell_state.specs.Stands.{Holding, Stands, Broken, Unfinished, len_at, looks_in}
 use Rattle.shell_state.specs.State.{State}
 use Rattle.shell_state.specs.Work.{works, Look}
 use Rattle.shell_state.specs.declared.halt.Halt.{Halt}
@@ -64,7 +68,7 @@ show_serves (Err e) holding seen s i told told' below st ends =
     let held = get_some s.shared.base.games i (omega (arith, below, st.base.count)) in
     let cut : GameCut e (game_text held.0) told told' = ends held.0 held.1 in
     let P : Option Held → Type 0 = λ h. Halted [] (shown i h) told told' in
-    record { wrote = subst P (sym held.1) cut.wrote; broken = broken_by_fault s (show_work i) e refl cut.fault }
+    record { wrote = subst P (sym held.1) cut.wrote; broken = broken_by_fault s (show_work i) e (show_text s i) told told' refl cut.whole cut.fault }
 
 -- The text of one game more.
 first_more : (i : ℕ) (plies : List (Option ℕ)) (games : List Held) (ply : Option ℕ) (held : Held) → slice_get plies i ≡ Some ply → slice_get games i ≡ Some held
@@ -82,22 +86,43 @@ pub export_all : (i : ℕ) (plies : List (Option ℕ)) (games : List Held) (told
 export_all i plies games told taken all every before =
     before ∙ ap (λ (l : List (Option ℕ)). adds told (exported l (take i games))) (take_all i plies all) ∙ ap (λ (l : List Held). adds told (exported plies l)) (take_all i games every)
 
+-- The text of a game that is in has a byte.
+game_has_byte : (head : Head) (game : GameTree) → pgn_of head game ≡ [] → ⊥
+unfolding pgn_of
+game_has_byte head game none = has_byte (flat_map tag_text (tags_of head game)) 10 (layout (tokens_of game head.result) ++ 10 ∷ 10 ∷ []) none
+
+in_has_byte : (i : ℕ) (ply : Option ℕ) (held : Held) → IsTrue (is_some ply) → text_if_in i ply held ≡ [] → ⊥
+in_has_byte i (Some ply) held some none = game_has_byte held.head held.game none
+in_has_byte i None held some none = absurd cc
+
+-- The texts of the first games are a front part of all.
+front_of_all : (count : ℕ) (plies : List (Option ℕ)) (games : List Held)
+    → exported plies games ≡ exported_first count plies games ++ texts_from text_if_in (0 + count) (drop count plies) (drop count games)
+front_of_all count plies games = texts-split text_if_in 0 count plies games
+
+-- If nothing of it was written, all were not.
+export_unfinished : (i : ℕ) (plies : List (Option ℕ)) (games : List Held) (ply : Option ℕ) (held : Held) (told taken : Option (List ℕ)) → slice_get plies i ≡ Some ply → slice_get games i ≡ Some held
+    → taken ≡ adds told (exported_first i plies games) → IsTrue (is_some ply) → Unfinished true (exported plies games) told taken
+export_unfinished i plies games ply held told taken p x before some =
+    let front : List ℕ = exported_first i plies games in
+    let text : List ℕ = text_if_in i ply held in
+    let more : List ℕ = texts_from text_if_in (0 + (i + 1)) (drop (i + 1) plies) (drop (i + 1) games) in
+    let all : exported plies games ≡ (front ++ text) ++ more = front_of_all (i + 1) plies games ∙ ap (λ (l : List ℕ). l ++ more) (first_more i plies games ply held p x) in
+    let P : List ℕ → Type 0 = λ l. Unfinished true l told taken in
+    subst P (sym all) (unfinished_more (front ++ text) more told taken (unfinished_at front text told taken before (in_has_byte i ply held some)))
+
 -- A game's text was broken off behind those of the games before.
 pub export_cut : (e : Halt) (i : ℕ) (plies : List (Option ℕ)) (games : List Held) (ply : Option ℕ) (held : Held) (told taken taken' : Option (List ℕ)) → slice_get plies i ≡ Some ply → slice_get games i ≡ Some held
-    → taken ≡ adds told (exported_first i plies games) → GameCut e (text_if_in i ply held) taken taken' → ExportCut plies games e told taken' × IsFault e
-export_cut e i plies games ply held told taken taken' p x before cut =
+    → taken ≡ adds told (exported_first i plies games) → GameCut e (text_if_in i ply held) taken taken' → IsTrue (is_some ply) → GamesEnd {A = Unit {0}} (Err e) plies games told taken'
+export_cut e i plies games ply held told taken taken' p x before cut some =
     let front : List ℕ = exported_first i plies games in
     let whole : Halted (front ++ []) (front ++ text_if_in i ply held) told taken' = halted_after front [] (text_if_in i ply held) told taken taken' before cut.wrote in
     let P : List ℕ → Type 0 = λ l. Halted l (front ++ text_if_in i ply held) told taken' in
     let Q : List ℕ → Type 0 = λ l. Halted front l told taken' in (
       record { count = i; wrote = subst Q (sym (first_more i plies games ply held p x)) (subst P (append-nil front) whole); whole = λ is. cut.whole is ∙ before },
       cut.fault,
+      λ is. export_unfinished i plies games ply held told taken' p x (cut.whole is ∙ before) some,
     )
-
--- The texts of the first games are a front part of all.
-front_of_all : (count : ℕ) (plies : List (Option ℕ)) (games : List Held)
-    → exported plies games ≡ exported_first count plies games ++ texts_from text_if_in (0 + count) (drop count plies) (drop count games)
-front_of_all count plies games = texts-split text_if_in 0 count plies games
 
 -- `export`
 pub export_serves : {A : Type 0} (r : Result A Halt) (holding : Holding) (seen : Seen) (s : State) (told told' : Option (List ℕ)) → Stands holding seen s
@@ -112,7 +137,7 @@ export_serves (Err e) holding seen s told told' st ends =
     record {
       wrote = subst P (sym (front_of_all n s.seat.filter s.shared.base.games))
           (halted_more [] most more told told' (halted_unsure (exported_first cut.count s.seat.filter s.shared.base.games) most told told' cut.wrote));
-      broken = broken_by_fault s export_work e refl ends.1;
+      broken = broken_by_fault s export_work e (exported s.seat.filter s.shared.base.games) told told' refl ends.2 ends.1;
     }
 
 pub export_breaks : {A : Type 0} (r : Result A Halt) (plies : List (Option ℕ)) (games : List Held) (told told' : Option (List ℕ)) → GamesEnd r plies games told told'

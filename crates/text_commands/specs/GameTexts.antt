@@ -1,5 +1,5 @@
 -- The commands that write games in Portable Game Notation. This project's own.
-use Rattle.std.specs.Prelude.{ℕ, List, Option, Some, None, slice_get, [], ◌∷◌, take, ◌≡◌, ◌+◌, ◌++◌}
+use Rattle.std.specs.Prelude.{ℕ, true, List, Option, Some, None, slice_get, [], ◌∷◌, take, ◌≡◌, ◌+◌, ◌++◌}
 use Rattle.base_core.specs.Base.{Held}
 use Rattle.base_core.specs.Entries.{head_of, sig_in}
 use Rattle.base_core.specs.Represents.{Kept}
@@ -91,4 +91,5 @@ abbrev pub show_work : ℕ → Work
 show_work game = reading (λ s. s) (λ s. show_text s game) (λ looks plies. len_in (λ look. look.len) (slice_get looks game))
 
 abbrev pub export_work : Work
-export_work = reading (λ s. s) (λ s. exported s.seat.filter s.shared.base.games) (λ looks plies. filtered_len (λ look. look.len) plies looks)
+export_work =
+    record (reading (λ s. s) (λ s. exported s.seat.filter s.shared.base.games) (λ looks plies. filtered_len (λ look. look.len) plies looks)) { early = true }

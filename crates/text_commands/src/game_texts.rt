@@ -1,5 +1,5 @@
 //! The commands that write games in Portable Game Notation. What `export` writes goes out in pages.
-ghost use Rattle.std.specs.Prelude.{◌≡◌, ◌≤◌, ◌<◌, ◌+◌, ◌++◌, ℕ, List, Some, Ok, length, slice_get, IfOk, IfErr, OnOk, OnErr};
+ghost use Rattle.std.specs.Prelude.{◌≡◌, ◌≤◌, ◌<◌, ◌+◌, ◌++◌, ℕ, IsTrue, List, Some, is_some, Ok, length, slice_get, IfOk, IfErr, OnOk, OnErr};
 ghost use Rattle.base_core.specs.Base.{Base as PlainBase, Held};
 ghost use Rattle.base_core.specs.Represents.{Represents};
 ghost use Rattle.base_files.specs.Counters.{raised};
@@ -184,6 +184,7 @@ fn put_if_in<F: Files, K: Sink>(
     requires room { length block.old ≡ 131072 }
     requires within { base.now.end ≤ (F.seen files.old).known }
     ensures put { (told : List ℕ) (all : PlainBase) (held : Held) → (F.seen files.old).games ≡ Some told → Represents base.now told all → slice_get all.games i ≡ Some held → GameEnds result (text_if_in i ply held) (adds (K.taken out.old) page.old.items) (adds (K.taken out.new) page.new.items) }
+    ensures some { OnErr result (IsTrue (is_some ply)) }
     ensures room { length block.new ≡ 131072 }
     ensures unchanged { F.seen files.new ≡ F.seen files.old }
     ensures asks { F.asked files.new ≤ F.asked files.old + len_if_in ply (len_at base.now.entries i) }

@@ -110,6 +110,6 @@ told_keys kept told base query plies is exact =
     let e = get_some kept.entries i (omega (arith, slice_get_within base.games i held at, is.count)) in
     let read = (is.each i e.0 held e.1 at).says in
     record {
-      start = game_sound (record_in told (extent_of e.0)) read.tags held.game (record { answer = read.read });
-      legal = game_legal (record_in told (extent_of e.0)) read.tags held.game (record { answer = read.read });
+      start = game_sound (record_in told (extent_of e.0)) read.tags held.game read.read;
+      legal = game_legal (record_in told (extent_of e.0)) read.tags held.game read.read;
     })

@@ -38,7 +38,7 @@ pub returns-in-Ok-clause-broken : goal.returns-in-Ok-clause-broken
 returns-in-Ok-clause-broken g c = λ d text st told right.
     let r = c.show_after.result in
     let t = task c.args.order.now text in
-    memory_broken r (window_of d.clients c.args.client) (seen_by d c.args.client) t c.show_after.ensures.memory
+    memory_broken r (window_of d.clients c.args.client) (seen_by d c.args.client) t _ _ _ c.show_after.ensures.memory
 
 pub returns-in-Ok-clause-right : goal.returns-in-Ok-clause-right
 returns-in-Ok-clause-right g c = λ d text st told right.

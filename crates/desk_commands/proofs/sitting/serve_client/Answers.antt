@@ -48,9 +48,13 @@ pub returns-then-is_tagged-clause-broken : goal.returns-then-is_tagged-clause-br
 returns-then-is_tagged-clause-broken g c = λ s text st told right.
     let e : c.window_of-window.result ≡ window_of c.args.clients.now c.args.client = c.window_of-window.ensures.window in
     let his = subst (λ (w : Window). AreRight (λ b. (goal.TreeView-dyn g (b.vtable, b.value)).rows b.value) w s c.args.views.now) (sym e) right in
+    let before = g.K.Sink.taken c.args.out.now in
+    let after = g.K.Sink.taken c.serve_tagged.new.out in
     let r = c.serve_tagged.result in
     let t = task c.args.order.now text in
-    subst (λ (w : Window). IfErr r (λ x. BrokenTask w s t x)) e (c.serve_tagged.ensures.broken s text st told his)
+    let own = window_of c.args.clients.now c.args.client in
+    to_lines c.args.clients.now c.args.client c.client_tag-tag.result (λ l. IfErr r (λ x. BrokenTask own s t x l before after)) ((tasks own).text s t) (sym c.is_tagged.ensures.tagged ∙ c.if-is_tagged.true) c.client_tag-tag.ensures.tag
+    (subst (λ (w : Window). IfErr r (λ x. BrokenTask w s t x (tagged c.client_tag-tag.result ((tasks w).text s t)) before after)) e (c.serve_tagged.ensures.broken s text st told his))
 
 pub returns-then-is_tagged-clause-views : goal.returns-then-is_tagged-clause-views
 returns-then-is_tagged-clause-views g c = λ s text st told right.
@@ -130,7 +134,9 @@ returns-else-is_tagged-clause-broken g c = λ s text st told right.
     let after = g.K.Sink.taken c.serve.new.out in
     let r = c.serve.result in
     let t = task c.args.order.now text in
-    subst (λ (w : Window). IfErr r (λ x. BrokenTask w s t x)) e (serving_broken r c.window_of-window.result m seen s t before after (c.serve.ensures.serves s text st told his))
+    let own = window_of c.args.clients.now c.args.client in
+    to_plain c.args.clients.now c.args.client (λ l. IfErr r (λ x. BrokenTask own s t x l before after)) ((tasks own).text s t) (sym c.is_tagged.ensures.tagged ∙ c.if-is_tagged.false)
+    (subst (λ (w : Window). IfErr r (λ x. BrokenTask w s t x ((tasks w).text s t) before after)) e (serving_broken r c.window_of-window.result m seen s t before after (c.serve.ensures.serves s text st told his)))
 
 pub returns-else-is_tagged-clause-views : goal.returns-else-is_tagged-clause-views
 returns-else-is_tagged-clause-views g c = λ s text st told right.

@@ -288,7 +288,13 @@ returns-in_err-serve_client-clause-broken g c = λ d text st told right.
     let Rt = sits_right (λ b. (goal.TreeView-dyn g (b.vtable, b.value)).rows b.value) held seen d K place seats0 seats1 own stood m2 seats2 cl c.args.views.now sits here clients room right in
     let b = his held seen d K place seats0 seats1 own stood m2 seats2 cl order text sits here is in
     let p = err_from_is_err_and c.from_residual-in_err-serve_client.result c.from_residual-in_err-serve_client.ensures.1 in
-    rw (p.1, p.2) (subst (λ r. IfErr r (λ e. BrokenTask (window_of d.clients place) (seen_by d place) t e)) c.in_err-serve_client.was (his_broken c.serve_client.result cl d place t (Lent d K place seats1 own) clients (c.serve_client.ensures.broken _ text S told Rt)))
+    let line = lines_to d.clients place ((own_tasks d place).text (seen_by d place) t) in
+    let before = g.K.Sink.taken c.args.out.now in
+    let after = g.K.Sink.taken c.serve_client.new.out in
+    let lent = Lent d K place seats1 own in
+    let broken = his_text cl d place order text K seats1 own (λ l. IfErr c.serve_client.result (λ e. BrokenTask (window_of cl place) lent t e l before after)) b clients (c.serve_client.ensures.broken _ text S told Rt) in
+    rw (p.1, p.2)
+    (subst (λ r. IfErr r (λ e. BrokenTask (window_of d.clients place) (seen_by d place) t e line before after)) c.in_err-serve_client.was (his_broken c.serve_client.result cl d place t lent line before after clients broken))
 
 pub returns-in_err-serve_client-clause-causes : goal.returns-in_err-serve_client-clause-causes
 returns-in_err-serve_client-clause-causes g c =

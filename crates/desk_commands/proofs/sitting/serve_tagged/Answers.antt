@@ -56,13 +56,21 @@ returns-clause-halted g c = λ s text st told_text right.
 
 pub returns-clause-broken : goal.returns-clause-broken
 returns-clause-broken g c = λ s text st told_text right.
+    let told = g.K.Sink.taken c.serve_behind-way.result.0.out.now in
+    let told' = g.K.Sink.taken c.flush-flushed.new.out in
+    let page = c.serve_behind-way.result.0.page.now in
     let m = c.serve_behind-way.new.machine in
     let seen = g.F.Files.seen c.serve_behind-way.new.files in
     let w = c.args.window in
     let r = c.serve_behind-way.result.1 in
     let f = c.flush-flushed.result in
+    let rendered = c.serve_behind-way.ensures.rendered in
+    let flushed = c.flush-flushed.ensures.halted in
     let t = task c.args.order.now text in
-    subst (λ x. IfErr x (λ e. BrokenTask w s t e)) (sym c.ended.ensures.ended) (ended_broken r f w s t _ _ (serving_broken r w m seen s t _ _ (c.serve_behind-way.ensures.serves s text st told_text right)) c.flush-flushed.ensures.causes)
+    let first = g.K.Sink.taken c.args.out.now in
+    let whole = subst (λ x. IfErr x (λ e. BrokenTask w s t e (tagged c.args.tag.now ((tasks w).text s t)) first told')) (sym c.ended.ensures.ended)
+    (ended_broken r f w s t _ told told' _ _ _ page ((tasks w).text s t) rendered flushed (serving_broken r w m seen s t _ _ (c.serve_behind-way.ensures.serves s text st told_text right)) c.flush-flushed.ensures.causes) in
+    search (rules, whole)
 
 pub returns-clause-views : goal.returns-clause-views
 returns-clause-views g c = λ s text st told_text right.

@@ -1,11 +1,13 @@
-use Rattle.std.proofs.Common.{rules, sym, ap, ◌∙◌, subst, arith, ℕ, Some}
+use Rattle.std.proofs.Common.{rules, refl, sym, ap, ◌∙◌, subst, arith, ℕ, Some}
+use Rattle.std.proofs.lemmas.List.{length-map}
 use Rattle.base_core.proofs.GamesLaws.{are-within, holds}
+use Rattle.base_core.specs.Entries.{sig_in}
 use Rattle.pos_index.specs.Hits.{Fits, Index, entries_of}
 use Rattle.index_commands.proofs.BuildLaws.{after_built, built, built_stands, has_room, text_built}
 use Rattle.index_commands.proofs.indexing.build.Goals as goal
 use Rattle.index_commands.specs.Indexing.{index_line, index_work}
 use Rattle.shell_state.proofs.PriceLaws.{price_of_all}
-use Rattle.shell_state.proofs.Quietly.{held_by, tables_with}
+use Rattle.shell_state.proofs.Quietly.{end_stays, held_by, tables_with}
 use Rattle.shell_state.specs.Stands.{Asks, Holding, Sound, Stands}
 use Rattle.shell_state.specs.State.{games_of}
 
@@ -51,3 +53,13 @@ returns-clause-stands g c = λ s st.
     let new = held_by c.machine.inside.base (tables_with (Some c.in-Ok.index) c.machine.inside.slots.watches) c.machine.inside.seat.filter c.machine.inside.seat.saved.items in
     subst (Stands new (g.F.Files.seen c.read_index.new.files)) (after_built s c.args.depth (has_room s c.args.depth c.games.result (c.games.ensures.games ∙ st.base.count) fits))
     (built_stands c.machine.inside.base (tables_with c.machine.inside.index c.machine.inside.slots.watches) c.in-Ok.index c.machine.inside.seat.filter c.machine.inside.seat.saved.items (g.F.Files.seen c.args.files.now) (g.F.Files.seen c.read_index.new.files) s c.args.depth st' c.read_index.ensures.unchanged is)
+
+pub returns-clause-sound : goal.returns-clause-sound
+returns-clause-sound g c =
+    let sound = subst (λ (h : Holding). Sound h (g.F.Files.seen c.args.files.now)) (sym c.machine.view_is) c.requires.sound in
+    record {
+      fits = sound.fits;
+      tables = record { index = c.in-Ok.ensures.games ∙ length-map c.machine.inside.base.entries sig_in; hits = sound.tables.hits };
+      base = sound.base;
+      at_end = end_stays refl c.read_index.ensures.unchanged sound.at_end;
+    }

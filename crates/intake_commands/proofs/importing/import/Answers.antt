@@ -9,7 +9,10 @@ use Rattle.shell_state.specs.declared.halt.Halt.TheVariants as halt
 pub returns-in-Err-clause-serves : goal.returns-in-Err-clause-serves
 returns-in-Err-clause-serves g c = λ s text st left.
     let took = c.in-Err.ensures.takes s text st left in
-    import_cut s text (g.K.Sink.taken c.args.out.now) (g.K.Sink.taken c.take_all.new.out) c.in-Err.halt took.0 took.1
+    import_cut c.take_all.new.machine s text (g.K.Sink.taken c.args.out.now) (g.K.Sink.taken c.take_all.new.out) c.in-Err.halt took.0 took.1 took.2
+
+pub returns-in-Err-clause-first : goal.returns-in-Err-clause-first
+returns-in-Err-clause-first g c = λ s text st left. (c.in-Err.ensures.takes s text st left).2
 
 pub returns-in_err-imported_line-clause-serves : goal.returns-in_err-imported_line-clause-serves
 returns-in_err-imported_line-clause-serves g c =

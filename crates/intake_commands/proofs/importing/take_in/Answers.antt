@@ -82,6 +82,7 @@ returns-clause-takes g c = λ s text st left. (
   took_short c.loop-taken.machine (g.F.Files.seen c.loop-taken.files) s text (told c.loop-taken.reader (g.B.Source.left c.loop-taken.body)) (adds (g.K.Sink.taken c.args.out.now) c.args.page.now.items) (adds (g.K.Sink.taken c.loop-taken.out) c.loop-taken.page.items)
       c.loop-taken.added (c.loop-taken.taken - c.loop-taken.added) (c.loop-taken.invariant.took s text st left),
   tt,
+  tt,
 )
 
 pub returns-clause-carries : goal.returns-clause-carries
@@ -95,7 +96,7 @@ returns-in_err-reader-clause-takes g c =
     let memory : c.from_residual.result ≡ Err (halt.Device stop.Memory) = made.1 ∙ ap (λ (e : Halt). Err e) made.2 in
     λ s text st left.
     let P : Result (ℕ × ℕ) Halt → Type 0 = λ r. TakesIn c.args.machine.now (g.F.Files.seen c.args.files.now) s (items_of text) (adds (g.K.Sink.taken c.args.out.now) c.args.page.now.items) (adds (g.K.Sink.taken c.args.out.now) c.args.page.now.items) r in
-    subst P (sym memory) (halted_none (run intake (none_taken s) (items_of text)) (adds (g.K.Sink.taken c.args.out.now) c.args.page.now.items), tt)
+    subst P (sym memory) (halted_none (run intake (none_taken s) (items_of text)) (adds (g.K.Sink.taken c.args.out.now) c.args.page.now.items), tt, tt)
 
 pub returns-in_err-reader-clause-carries : goal.returns-in_err-reader-clause-carries
 returns-in_err-reader-clause-carries g c = λ s st. carry_of c.args.machine.now (g.F.Files.seen c.args.files.now) s None st

@@ -1,9 +1,10 @@
 use Rattle.std.proofs.Common.{None, ◌≡◌, ◌-◌, Option, Some, refl, subst, arith}
 use Rattle.base_files.specs.Told.{adds}
 use Rattle.command_runs.specs.Plain.{after_all}
+use Rattle.pgn_read.specs.Items.{items_of}
 use Rattle.pgn_read.specs.Readers.{Follows, told}
 use Rattle.pgn_read.specs.declared.item.Item.{Item}
-use Rattle.intake_commands.proofs.IntakeLaws.{body_fault, item_keeps, took_cut, took_end, took_number, took_one, took_short, took_still}
+use Rattle.intake_commands.proofs.IntakeLaws.{body_fault, first_added, first_read, item_keeps, took_cut, took_first, took_end, took_number, took_one, took_short, took_still}
 use Rattle.intake_commands.proofs.importing.take_next.Goals as goal
 use Rattle.intake_commands.specs.Importing.{Intake, intake, item_after, next_number, none_taken}
 use Rattle.shell_state.proofs.CarryLaws.{carry_of}
@@ -28,6 +29,8 @@ returns-in-Err-clause-took g c = λ s text start added refused took number.
     let still = took_still c.args.machine.now (g.F.Files.seen c.args.files.now) s text (told c.args.reader.now (g.B.Source.left c.args.body.now)) start (adds (g.K.Sink.taken c.args.out.now) c.args.page.now.items) (adds (g.K.Sink.taken c.next_behind.new.out) c.next_behind.new.page.items) added refused took c.next_behind.ensures.kept in (
       took_short c.args.machine.now (g.F.Files.seen c.args.files.now) s text (told c.args.reader.now (g.B.Source.left c.args.body.now)) start (adds (g.K.Sink.taken c.next_behind.new.out) c.next_behind.new.page.items) added refused still,
       c.in-Err.ensures.fault,
+      first_read c.in-Err.halt c.args.machine.now s (items_of text) start (adds (g.K.Sink.taken c.next_behind.new.out) c.next_behind.new.page.items) c.in-Err.ensures.fault
+          (took_first c.args.machine.now (g.F.Files.seen c.args.files.now) s text (told c.args.reader.now (g.B.Source.left c.args.body.now)) start (adds (g.K.Sink.taken c.next_behind.new.out) c.next_behind.new.page.items) added refused still),
     )
 
 pub returns-in-Ok-clause-took : goal.returns-in-Ok-clause-took
@@ -62,4 +65,7 @@ returns-clause-took g c = λ s text start added refused took number.
       took_cut c.args.machine.now (g.F.Files.seen c.args.files.now) s text (told c.args.reader.now (g.B.Source.left c.args.body.now)) (told c.next_behind.new.reader (g.B.Source.left c.next_behind.new.body)) start (adds (g.K.Sink.taken c.next_behind.new.out) c.next_behind.new.page.items) (adds (g.K.Sink.taken c.take_item.new.out) c.take_item.new.page.items)
           added refused c.in-Ok-Some.item c.in-Err-take_item.halt still follows cut,
       body_fault c.in-Err-take_item.halt cut.broken,
+      first_added c.in-Err-take_item.halt c.args.machine.now c.take_item.new.machine s (items_of text) start (adds (g.K.Sink.taken c.next_behind.new.out) c.next_behind.new.page.items) (adds (g.K.Sink.taken c.take_item.new.out) c.take_item.new.page.items)
+          cut.broken c.in-Err-take_item.ensures.kept c.in-Err-take_item.ensures.unsaid
+          (took_first c.args.machine.now (g.F.Files.seen c.args.files.now) s text (told c.args.reader.now (g.B.Source.left c.args.body.now)) start (adds (g.K.Sink.taken c.next_behind.new.out) c.next_behind.new.page.items) added refused still),
     )

@@ -1,8 +1,8 @@
 use Rattle.pos_index.specs.Hits.{rows_told}
-use Rattle.std.proofs.Common.{◌≡◌, rules, sym, subst, ◌∙◌, Some}
+use Rattle.std.proofs.Common.{◌≡◌, rules, sym, subst, ◌∙◌, None, Some}
 use Rattle.sig_index.proofs.ReadLemmas.{some_at}
 use Rattle.pos_search.specs.Matching.{IsLegalFrom}
-use Rattle.pos_search.proofs.SearchLemmas.{unread}
+use Rattle.pos_search.proofs.OutLemmas.{unread_out}
 use Rattle.pos_search.proofs.TellingLemmas.{tells_hit}
 use Rattle.pos_search.proofs.searching.hit_sought.Goals as goal
 
@@ -15,9 +15,12 @@ returns-in-Some-clause-found g c = λ contents list game index same holds there 
     sym (tells_hit contents extents sigs list c.args.i sig.0 game index c.args.q.now is holds sig.1 there squares c.in-Some.found
     (sym (c.hit_told.ensures.told c.args.q.now (rows_told index) told) ∙ found))
 
-pub returns-then-not-passes-clause-found : goal.returns-then-not-passes-clause-found
-returns-then-not-passes-clause-found g c = λ contents list game index same holds there squares told is.
-    unread contents (g.G.Games.extents c.args.games.now) (g.G.Games.sigs c.args.games.now) list c.args.i c.brief.result game c.args.q.now holds c.brief.ensures.kept there (sym c.passes.ensures.passes ∙ c.if-not-passes.true)
+pub returns-then-not-is_open-clause-found : goal.returns-then-not-is_open-clause-found
+returns-then-not-is_open-clause-found g c = λ contents list game index same holds there squares told is.
+    let none : c.hit_told.result ≡ None = search rules in
+    unread_out contents (g.G.Games.extents c.args.games.now) (g.G.Games.sigs c.args.games.now) list c.args.i c.brief.result game index c.args.q.now is holds c.brief.ensures.kept there
+    squares (sym (c.hit_told.ensures.told c.args.q.now (rows_told index) told) ∙ none)
+    (sym (c.is_open.ensures (rows_told index) (c.hit_told.ensures.same ∙ told)) ∙ c.if-not-is_open.true)
 
 pub returns-in-Some-clause-legal : goal.returns-in-Some-clause-legal
 returns-in-Some-clause-legal g c = λ legal.

@@ -19,7 +19,7 @@ returns-clause-found g c = λ told list same holds is.
     let rows = rows_told (option_copied c.args.index) in
     let told_so = c.hits_told.ensures.told ∙ ap (λ (q : PosQuery). hits_told q rows) (sym c.new.ensures.query) in
     subst (λ (q : PosQuery). OnOk c.search.result (c.search.new.filter ≡ searched c.args.op (firsts_of q list) c.args.filter.now)) c.new.ensures.query
-    (c.search.ensures.found (unread_of query rows) told list (tells_so (record { query = query; hits = c.hits_told.result }) rows told_so) same holds
+    (c.search.ensures.found (unread_of query rows) told list (tells_so (record { query = query; told = c.hits_told.result }) rows told_so) same holds
     (are_right query (option_copied c.args.index) told (g.G.Games.extents c.args.games.now) (g.G.Games.sigs c.args.games.now) list holds is c.new.ensures.squares))
 
 pub returns-clause-ended : goal.returns-clause-ended
@@ -30,7 +30,7 @@ returns-clause-ended g c = λ told list same holds is.
     subst
     (λ (q : PosQuery). IfErr c.search.result (λ e. EndsAt e (λ n. searched c.args.op (take n (firsts_of q list)) c.args.filter.now) c.args.filter.now c.search.new.filter))
     c.new.ensures.query
-    (c.search.ensures.ended (unread_of query rows) told list (tells_so (record { query = query; hits = c.hits_told.result }) rows told_so) same holds
+    (c.search.ensures.ended (unread_of query rows) told list (tells_so (record { query = query; told = c.hits_told.result }) rows told_so) same holds
     (are_right query (option_copied c.args.index) told (g.G.Games.extents c.args.games.now) (g.G.Games.sigs c.args.games.now) list holds is c.new.ensures.squares))
 
 pub returns-clause-skipped : goal.returns-clause-skipped
@@ -42,7 +42,7 @@ returns-clause-skipped g c =
     (λ (q : PosQuery). OnOk c.search.result ((i : ℕ) (sig : Sig) → slice_get (g.G.Games.sigs c.args.games.now) i ≡ Some sig → is_read q (places_in rows i) sig ≡ false
     → slice_index_or c.search.new.filter i None ≡ entry_after c.args.op (slice_index_or c.args.filter.now i None) (ply_of (hit_told q (places_in rows i)))))
     c.new.ensures.query
-    (c.search.ensures.skipped (unread_of query rows) (tells_so (record { query = query; hits = c.hits_told.result }) rows told_so))
+    (c.search.ensures.skipped (unread_of query rows) (tells_so (record { query = query; told = c.hits_told.result }) rows told_so))
 
 pub returns-clause-asks : goal.returns-clause-asks
 returns-clause-asks g c =
@@ -53,7 +53,7 @@ returns-clause-asks g c =
     subst
     (λ (reads : List Bool). g.F.Files.asked c.search.new.files ≤ g.F.Files.asked c.args.files.now + price_by (cost_of c.args.op) reads (g.G.Games.extents c.args.games.now) c.args.filter.now)
     (reads_are query rows sigs ∙ ap (λ (q : PosQuery). are_read q rows sigs) c.new.ensures.query)
-    (c.search.ensures.asks (unread_of query rows) (tells_so (record { query = query; hits = c.hits_told.result }) rows told_so))
+    (c.search.ensures.asks (unread_of query rows) (tells_so (record { query = query; told = c.hits_told.result }) rows told_so))
 
 pub returns-clause-asked : goal.returns-clause-asked
 returns-clause-asked g c =
@@ -64,4 +64,4 @@ returns-clause-asked g c =
     subst
     (λ (reads : List Bool). OnOk c.search.result (raised (g.F.Files.asked c.args.files.now) (price_by (cost_of c.args.op) reads (g.G.Games.extents c.args.games.now) c.args.filter.now) ≤ g.F.Files.asked c.search.new.files))
     (reads_are query rows sigs ∙ ap (λ (q : PosQuery). are_read q rows sigs) c.new.ensures.query)
-    (c.search.ensures.asked (unread_of query rows) (tells_so (record { query = query; hits = c.hits_told.result }) rows told_so))
+    (c.search.ensures.asked (unread_of query rows) (tells_so (record { query = query; told = c.hits_told.result }) rows told_so))

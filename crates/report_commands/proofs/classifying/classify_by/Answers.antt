@@ -5,7 +5,6 @@ use Rattle.base_core.proofs.GamesLaws.{are-within, holds}
 use Rattle.base_core.specs.Base.{Held}
 use Rattle.base_core.specs.Entries.{sig_in}
 use Rattle.base_files.specs.Seen.{Seen}
-use Rattle.block_store.specs.Placing.{IsEnd}
 use Rattle.eco_class.specs.Table.{eco_of}
 use Rattle.report_commands.proofs.EcoLaws.{coded_fits, coded_stands}
 use Rattle.report_commands.proofs.classifying.classify_by.Goals as goal
@@ -13,7 +12,7 @@ use Rattle.report_commands.specs.Classifying.{classified_by, classified_line, ec
 use Rattle.report_commands.specs.Ends.{AreCoded, IsCode}
 use Rattle.shell_state.proofs.EditedLaws.{tables_fit_count}
 use Rattle.shell_state.proofs.PriceLaws.{price_of_all}
-use Rattle.shell_state.proofs.Quietly.{held_by, tables_with}
+use Rattle.shell_state.proofs.Quietly.{end_stays, held_by, tables_with}
 use Rattle.shell_state.specs.Stands.{Holding, Sound, Stands, Asks}
 use Rattle.shell_state.specs.State.{games_of}
 
@@ -62,8 +61,7 @@ returns-clause-sound g c =
       tables = tables_fit_count base new (tables_with c.machine.inside.index c.machine.inside.slots.watches) c.machine.inside.seat.filter c.machine.inside.seat.saved.items coded.count sound.tables;
       fits = coded_fits c.in-Ok.found.items base new (tables_with c.machine.inside.index c.machine.inside.slots.watches) c.machine.inside.seat.filter c.machine.inside.seat.saved.items coded sound.fits;
       base = c.keeps_sound.ensures.sound;
-      at_end = subst (λ (x : Seen). IsEnd new.end x) (sym c.find_codes.ensures.unchanged)
-          (subst (λ (end : ℕ). IsEnd end seen) (sym coded.end) sound.at_end);
+      at_end = end_stays coded.end c.find_codes.ensures.unchanged sound.at_end;
     }
 
 pub returns-clause-asks : goal.returns-clause-asks

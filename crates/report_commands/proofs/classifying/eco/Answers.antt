@@ -10,4 +10,4 @@ returns-in-Ok-clause-serves g c = λ s text st told.
 
 pub returns-in-Err-clause-serves : goal.returns-in-Err-clause-serves
 returns-in-Err-clause-serves g c = λ s text st told.
-    task_unwritten s (eco_work text) c.in-Err.halt (g.K.Sink.taken c.args.out.now) refl refl (c.in-Err.ensures.devices s st)
+    task_unwritten s (eco_work text) c.in-Err.halt (g.K.Sink.taken c.args.out.now) refl refl refl (c.in-Err.ensures.devices s st)

@@ -3,12 +3,11 @@ use Rattle.std.proofs.lemmas.List.{length-map}
 use Rattle.base_core.proofs.GamesLaws.{are-within, holds}
 use Rattle.base_core.specs.Entries.{sig_in}
 use Rattle.base_files.specs.Seen.{Seen}
-use Rattle.block_store.specs.Placing.{IsEnd}
 use Rattle.report_commands.proofs.TwinLaws.{deleted_stands, found_are, marked_end, marked_fits, price_is, marked_tables_fit}
 use Rattle.report_commands.proofs.twin_marks.mark_twins.Goals as goal
 use Rattle.report_commands.specs.Ends.{Marked, twins_line}
 use Rattle.report_commands.specs.Twins.{found_twins, with_deleted, twins_work}
-use Rattle.shell_state.proofs.Quietly.{held_by, tables_with}
+use Rattle.shell_state.proofs.Quietly.{end_stays, held_by, tables_with}
 use Rattle.shell_state.specs.Stands.{Holding, Sound, Stands, Asks}
 use Rattle.shell_state.specs.State.{games_of}
 
@@ -57,8 +56,7 @@ returns-clause-sound g c =
       fits = marked_fits c.in-Ok.found.items base new (tables_with c.machine.inside.index c.machine.inside.slots.watches) c.machine.inside.seat.filter c.machine.inside.seat.saved.items marked sound.fits;
       tables = marked_tables_fit c.in-Ok.found.items base new (tables_with c.machine.inside.index c.machine.inside.slots.watches) c.machine.inside.seat.filter c.machine.inside.seat.saved.items marked sound.tables;
       base = c.keeps_sound.ensures.sound;
-      at_end = subst (λ (x : Seen). IsEnd new.end x) (sym c.find_twins.ensures.unchanged)
-          (subst (λ (end : ℕ). IsEnd end seen) (sym (marked_end c.in-Ok.found.items base new marked)) sound.at_end);
+      at_end = end_stays (marked_end c.in-Ok.found.items base new marked) c.find_twins.ensures.unchanged sound.at_end;
     }
 
 pub returns-clause-asks : goal.returns-clause-asks

@@ -1,9 +1,8 @@
 use Rattle.std.proofs.Common.{None, arith, refl}
-use Rattle.search_commands.proofs.DemoLaws.{carry_adding, demo_asks, demo_serves, refusal_serves}
+use Rattle.search_commands.proofs.DemoLaws.{carry_adding, demo_asks, demo_cuts, demo_serves, refusal_serves}
 use Rattle.search_commands.proofs.demoing.demo.Goals as goal
-use Rattle.search_commands.specs.Demo.{adding, demo_text, demo_work}
+use Rattle.search_commands.specs.Demo.{adding}
 use Rattle.shell_state.proofs.CarryLaws.{carry_same}
-use Rattle.shell_state.proofs.Served.{search_cuts}
 
 pub returns-in-Ok-Plies-clause-serves : goal.returns-in-Ok-Plies-clause-serves
 returns-in-Ok-Plies-clause-serves g c = λ s st.
@@ -35,7 +34,7 @@ returns-in-Ok-Refused-clause-carries g c = λ s st. c.add_games.ensures.carries 
 
 pub returns-in-Err-clause-serves : goal.returns-in-Err-clause-serves
 returns-in-Err-clause-serves g c = λ s st.
-    search_cuts c.in-Err.halt s (demo_work c.args.seed c.args.games) (demo_text s c.args.seed c.args.games) (g.K.Sink.taken c.args.out.now) refl c.in-Err.ensures.devices
+    demo_cuts c.in-Err.halt s c.args.seed c.args.games (g.K.Sink.taken c.args.out.now) c.in-Err.ensures.devices
 
 pub returns-in-Err-clause-carries : goal.returns-in-Err-clause-carries
 returns-in-Err-clause-carries g c = λ s st. c.add_games.ensures.carries s st

@@ -43,7 +43,7 @@ returns-clause-serves g c = λ s st.
           w.write_line.ensures.written w.write_line.ensures.halted w.write_line.ensures.output)
       | in-Err w ↦
           rw (w.result-is, w.out-is)
-          (search_cuts w.in-Err.halt s (tree_work c.args.board.now c.args.side) (tree_said s c.args.board.now c.args.side) (g.K.Sink.taken c.args.out.now) refl
+          (search_cuts w.in-Err.halt s (tree_work c.args.board.now c.args.side) (tree_said s c.args.board.now c.args.side) (g.K.Sink.taken c.args.out.now) refl refl
           (w.in-Err.ensures.devices st'.games s.shared.base st'.told st'.base))
     ]
 

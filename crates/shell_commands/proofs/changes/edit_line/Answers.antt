@@ -7,15 +7,15 @@ use Rattle.shell_commands.proofs.changes.edit_line.Goals as goal
 
 pub returns-in-Replace-clause-broken : goal.returns-in-Replace-clause-broken
 returns-in-Replace-clause-broken g c = λ w s text st.
-    rw c.in-Replace.is (body_broken c.replace_line.result s (replace_work c.in-Replace.number text) refl refl c.replace_line.ensures.devices)
+    rw c.in-Replace.is (body_broken c.replace_line.result s (replace_work c.in-Replace.number text) refl refl refl c.replace_line.ensures.devices)
 
 pub returns-in-Tag-clause-broken : goal.returns-in-Tag-clause-broken
 returns-in-Tag-clause-broken g c = λ w s text st.
-    rw c.in-Tag.is (edit_broken c.tag_line.result s (tag_work c.in-Tag.number c.in-Tag.edit) refl (c.tag_line.ensures.devices s st))
+    rw c.in-Tag.is (edit_broken c.tag_line.result s (tag_work c.in-Tag.number c.in-Tag.edit) refl refl (c.tag_line.ensures.devices s st))
 
 pub returns-in-Compact-clause-broken : goal.returns-in-Compact-clause-broken
 returns-in-Compact-clause-broken g c = λ w s text st.
-    rw c.in-Compact.is (edit_broken c.compact_line.result s compact_work refl (c.compact_line.ensures.devices s st))
+    rw c.in-Compact.is (edit_broken c.compact_line.result s compact_work refl refl (c.compact_line.ensures.devices s st))
 
 pub returns-in-Replace-clause-line : goal.returns-in-Replace-clause-line
 returns-in-Replace-clause-line g c = λ w s text st left. rw c.in-Replace.is (c.replace_line.ensures.line s text st left)

@@ -31,7 +31,7 @@ returns-in-Ok-clause-carries g c = λ s st. if_err c.show_line.result _ (c.edit_
 pub returns-in-Err-clause-serves : goal.returns-in-Err-clause-serves
 returns-in-Err-clause-serves g c = λ s text st told. record {
   wrote = halted_none ((command_work c.args.window c.args.command.now text).text s) (g.K.Sink.taken c.args.out.now);
-  broken = c.in-Err.ensures.broken c.args.window s text st;
+  broken = c.in-Err.ensures.broken c.args.window s text st ((command_work c.args.window c.args.command.now text).text s) (g.K.Sink.taken c.args.out.now);
 }
 
 pub returns-in-Ok-clause-settled : goal.returns-in-Ok-clause-settled

@@ -1,11 +1,11 @@
-use Rattle.shell_commands.proofs.ViewLaws.{moves_none, not_searches, searches_read, shown_left, views_shown}
+use Rattle.shell_commands.proofs.ViewLaws.{moves_none, not_searches, searches_late, searches_read, shown_left, views_shown}
 use Rattle.shell_commands.proofs.searches.serve_search.Goals as goal
 use Rattle.shell_commands.specs.Tasks.{command_work}
 use Rattle.shell_state.proofs.Served.{on_ok, search_cuts}
 
 pub returns-in-Err-clause-serves : goal.returns-in-Err-clause-serves
 returns-in-Err-clause-serves g c = λ s text st.
-    search_cuts c.in-Err.halt s (command_work c.args.window c.args.command.now text) _ _ (searches_read c.args.window c.args.command.now text c.requires.part) (c.in-Err.ensures.devices s st)
+    search_cuts c.in-Err.halt s (command_work c.args.window c.args.command.now text) _ _ (searches_read c.args.window c.args.command.now text c.requires.part) (searches_late c.args.window c.args.command.now text c.requires.part) (c.in-Err.ensures.devices s st)
 
 pub returns-in-Ok-show_rows-clause-views : goal.returns-in-Ok-show_rows-clause-views
 returns-in-Ok-show_rows-clause-views g c = λ s text st right.

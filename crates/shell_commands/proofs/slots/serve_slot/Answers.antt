@@ -13,7 +13,7 @@ returns-in-Ok-clause-views g c = λ s text st right.
 
 pub returns-in-Err-clause-serves : goal.returns-in-Err-clause-serves
 returns-in-Err-clause-serves g c = λ s text st right.
-    rw c.in-Watch.is (search_cuts c.in-Err.halt s (watch_work c.args.window c.in-Watch.number c.in-Watch.board c.in-Watch.side) _ _ refl (c.in-Err.ensures.devices s st))
+    rw c.in-Watch.is (search_cuts c.in-Err.halt s (watch_work c.args.window c.in-Watch.number c.in-Watch.board c.in-Watch.side) _ _ refl refl (c.in-Err.ensures.devices s st))
 
 pub returns-in-View-clause-serves : goal.returns-in-View-clause-serves
 returns-in-View-clause-serves g c = λ s text st right.

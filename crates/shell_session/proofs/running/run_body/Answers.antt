@@ -39,7 +39,7 @@ returns-in-Err-clause-halts g c = λ d first most ahead stands told.
     let P : Status → Type 0 = λ status. Halts status (around (g.F.Files.seen c.serve_in.new.files) first most (meanings (λ b. (goal.TreeView-dyn g (b.vtable, b.value)).rows b.value) (λ b. (goal.TreeView-dyn g (b.vtable, b.value)).told b.value) c.serve_in.new.views)) c.args.line.now d ahead c.args.reader.used (g.S.Source.left c.serve_in.new.input) (g.K.Sink.taken c.args.out.now) (g.K.Sink.taken c.serve_in.new.out) (g.F.Files.asked c.args.files.now) (g.F.Files.asked c.serve_in.new.files) in
     subst P (sym c.broken.ensures.status)
     (body_halts c.in-Err.halt c.serve_in.new.place.stuck c.args.line.now c.args.word.now ahead c.args.reader (g.S.Source.left c.args.input.now) (g.S.Source.budget c.args.input.now) (g.S.Source.faults c.args.input.now) c.serve_in.new.place (g.S.Source.left c.serve_in.new.input) (g.S.Source.budget c.serve_in.new.input) (g.S.Source.faults c.serve_in.new.input) d (around (g.F.Files.seen c.serve_in.new.files) first most (meanings (λ b. (goal.TreeView-dyn g (b.vtable, b.value)).rows b.value) (λ b. (goal.TreeView-dyn g (b.vtable, b.value)).told b.value) c.serve_in.new.views)) (g.K.Sink.taken c.args.out.now) (g.K.Sink.taken c.serve_in.new.out) (g.F.Files.asked c.args.files.now) (g.F.Files.asked c.serve_in.new.files) (g.F.Files.faults c.args.files.now) (g.F.Files.faults c.serve_in.new.files) c.in-Ok.place.refused (g.K.Sink.faults c.args.out.now) (g.K.Sink.faults c.serve_in.new.out)
-    refl at cut.wrote cut.broken c.in-Err.ensures.unsaid (record { carries = c.in-Err.ensures.carries d first most text stands (text_left c.args.reader c.args.word.now ahead c.in-Ok.place (g.S.Source.left c.args.input.now) begun told); views = c.in-Err.ensures.left d first most text stands (text_left c.args.reader c.args.word.now ahead c.in-Ok.place (g.S.Source.left c.args.input.now) begun told) }) c.in-Err.ensures.causes.why
+    refl at cut.wrote cut.broken (record { carries = c.in-Err.ensures.carries d first most text stands (text_left c.args.reader c.args.word.now ahead c.in-Ok.place (g.S.Source.left c.args.input.now) begun told); views = c.in-Err.ensures.left d first most text stands (text_left c.args.reader c.args.word.now ahead c.in-Ok.place (g.S.Source.left c.args.input.now) begun told) }) c.in-Err.ensures.causes.why
     (c.serve_in.ensures.asks d first most stands))
 
 pub returns-in-Err-clause-kept : goal.returns-in-Err-clause-kept

@@ -38,7 +38,7 @@ returns-clause-interrupted g c = λ d first most lives.
       carries = c.in-Err.ensures.carries d [] lives.stands refl right;
       views = left_by (λ b. (goal.TreeView-dyn g (b.vtable, b.value)).rows b.value) (λ b. (goal.TreeView-dyn g (b.vtable, b.value)).told b.value) d (tagged_task c.args.line []) c.args.desk.now (g.F.Files.seen c.args.files.now) (g.F.Files.seen c.serve.new.files) first most c.args.views.now c.serve.new.views lives (c.serve.ensures.left d [] lives.stands refl right);
     })
-    (c.in-Err.ensures.settled d [] lives.stands refl right) c.in-Err.ensures.unsaid)
+    (c.in-Err.ensures.settled d [] lives.stands refl right))
 
 pub returns-clause-kept : goal.returns-clause-kept
 returns-clause-kept g c =

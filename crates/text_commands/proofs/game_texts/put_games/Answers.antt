@@ -12,7 +12,7 @@ returns-in-Err-clause-put g c = λ told all same is.
     let held = get_some all.games c.loop-i.i (omega (arith, c.loop-i-test.true, c.len-i-end.ensures.len, c.requires.games, is.count)) in
     export_cut c.in-Err.halt c.loop-i.i c.args.filter.now all.games c.get.result held.0 (adds (g.K.Sink.taken c.args.out.now) c.args.page.now.items) (adds (g.K.Sink.taken c.loop-i.out) c.loop-i.page.items) (adds (g.K.Sink.taken c.put_if_in.new.out) c.put_if_in.new.page.items)
     c.get.ensures.entry held.1 (c.loop-i.invariant.put told all same is)
-    (c.in-Err.ensures.put told all held.0 (ap (λ (s : Seen). s.games) c.loop-i.invariant.seen ∙ same) is held.1)
+    (c.in-Err.ensures.put told all held.0 (ap (λ (s : Seen). s.games) c.loop-i.invariant.seen ∙ same) is held.1) c.in-Err.ensures.some
 
 pub returns-in-Err-clause-asks : goal.returns-in-Err-clause-asks
 returns-in-Err-clause-asks g c =

@@ -17,4 +17,4 @@ pub returns-in-Err-clause-serves : goal.returns-in-Err-clause-serves
 returns-in-Err-clause-serves g c = λ seen s st.
     let st' = subst (λ (h : Holding). Stands h seen s) (sym c.machine.view_is) st in
     let P : List ℕ → Type 0 = λ l. Halted [] l (g.K.Sink.taken c.args.out.now) (g.K.Sink.taken c.write_list.new.out) in
-    record { wrote = subst P (listed_text _ seen s st') c.in-Err.ensures.halted; broken = broken_by_output s list_work (halt.Device c.in-Err.stop) (output_of c.in-Err.stop _ _ c.in-Err.ensures.causes.why) }
+    record { wrote = subst P (listed_text _ seen s st') c.in-Err.ensures.halted; broken = broken_by_output s list_work (halt.Device c.in-Err.stop) (output_of c.in-Err.stop _ _ c.in-Err.ensures.causes.why) _ _ _ }

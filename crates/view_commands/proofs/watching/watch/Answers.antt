@@ -1,12 +1,11 @@
 use Rattle.std.proofs.Common.{◌≡◌, ◌+◌, ◌<◌, ℕ, Option, Some, length, ap, refl, sym, subst, ◌∙◌, arith}
 use Rattle.std.specs.Prelude.{is_some}
 use Rattle.base_files.specs.Seen.{Seen}
-use Rattle.block_store.specs.Placing.{IsEnd}
 use Rattle.cell_core.specs.Packed.{packed_of}
 use Rattle.game_filter.specs.declared.op.Op.TheVariants.{Ignore}
 use Rattle.pos_index.specs.Hits.{Index, IndexesAll, rows_told}
 use Rattle.shell_state.proofs.IndexLaws.{indexes_all}
-use Rattle.shell_state.proofs.Quietly.{filter_is, held_by, tables_with}
+use Rattle.shell_state.proofs.Quietly.{end_stays, filter_is, held_by, tables_with}
 use Rattle.shell_state.specs.Slots.{exactly, slot_at}
 use Rattle.shell_state.specs.Slots.Slot.{shows}
 use Rattle.shell_state.specs.Stands.{Asks, Holding, Sound, Stands, Tables}
@@ -227,5 +226,5 @@ returns-clause-sound g c =
             sound.tables.hits;
       };
       base = sound.base;
-      at_end = subst (IsEnd machine.base.end) (sym c.read_hits.ensures.unchanged) sound.at_end;
+      at_end = end_stays refl c.read_hits.ensures.unchanged sound.at_end;
     }

@@ -1,4 +1,3 @@
-use Rattle.game_codec.specs.declared.all_walk.Met.TheVariants as met
 use Rattle.game_codec.proofs.MeetLaws.{come_end, come_fault}
 use Rattle.game_codec.proofs.all_walk.Lines.next_move.Goals as goal
 

@@ -27,12 +27,12 @@ pub returns-in-Open-clause-fault : goal.returns-in-Open-clause-fault
 returns-in-Open-clause-fault c =
     let p = c.args.self.now in
     let same = rw c.in-Open.is at c.in-Ok.ensures.past in
-    subst (λ (s : Place). IfErr c.variation.result (BreaksLine (record { place = s; rest = p.rest; tally = p.tally }))) same c.variation.ensures.fault
+    subst (λ (s : Place). IfErr c.variation.result (BreaksLine (record { place = record p.place { now = s }; rest = p.rest; tally = p.tally }))) same c.variation.ensures.fault
 
 pub returns-in-End-clause-does : goal.returns-in-End-clause-does
 returns-in-End-clause-does c =
     let p = c.args.self.now in
     let same = rw c.in-End.is at c.in-Ok.ensures.past in
     let takes = rw c.in-End.is at c.in-Ok.ensures.takes in
-    subst (λ (s : Place). Passes p (record { place = s; rest = p.rest; tally = p.tally }) × Ends (record { place = s; rest = p.rest; tally = p.tally })) (sym same)
+    subst (λ (s : Place). Passes p (record { place = record p.place { now = s }; rest = p.rest; tally = p.tally }) × Ends (record { place = record p.place { now = s }; rest = p.rest; tally = p.tally })) (sym same)
     (Passes-none p, ends p c.in-Ok.next.used takes)

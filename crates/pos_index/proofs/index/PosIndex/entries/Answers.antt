@@ -8,7 +8,7 @@ pub overflow_add-entries : goal.overflow_add-entries
 overflow_add-entries c =
     let places = c.self.inside.places in
     let rows : places ≡ c.args.self.now.rows = ap (λ (i : Index). i.rows) c.self.view_is in
-    let few = total-few c.self.inside.depth places c.self.invariant.1.1 c.self.invariant.1.0 in
+    let few = total-few c.self.inside.depth places c.self.invariant.1.1.0 c.self.invariant.1.0 in
     let within : c.loop-i.i < length places = search rules in
     let more = sum_by_more_le (λ (r : List Place). length r) places c.loop-i.i [] within in
     let so_far : c.loop-i.entries ≡ sum_by (λ (r : List Place). length r) (take c.loop-i.i places) = search (rules, rows) in
@@ -19,6 +19,6 @@ pub returns-clause-few : goal.returns-clause-few
 returns-clause-few c =
     let places = c.self.inside.places in
     let rows : places ≡ c.args.self.now.rows = ap (λ (i : Index). i.rows) c.self.view_is in
-    let few = total-few c.self.inside.depth places c.self.invariant.1.1 c.self.invariant.1.0 in
+    let few = total-few c.self.inside.depth places c.self.invariant.1.1.0 c.self.invariant.1.0 in
     let so_far : c.loop-i.entries ≡ sum_by (λ (r : List Place). length r) (take c.loop-i.i places) = search (rules, rows) in
     omega (arith, few, so_far, sum_by-take-le (λ (r : List Place). length r) places c.loop-i.i)

@@ -1,7 +1,8 @@
 use Rattle.std.proofs.Common.{ap, subst, ◌∙◌}
 use Rattle.sig_index.specs.declared.pos_query.PosQuery.{PosQuery}
 use Rattle.cell_core.specs.Board.{Men}
-use Rattle.pos_search.specs.Sought.{AreHomes, has_homes}
+use Rattle.pos_search.specs.Passing.{has_homes}
+use Rattle.pos_search.specs.Sought.{AreHomes}
 use Rattle.pos_search.proofs.matching.Sought.has_homes.Goals as goal
 
 pub returns : goal.returns

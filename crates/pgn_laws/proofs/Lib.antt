@@ -1,0 +1,17 @@
+pub mod SpelledLaws
+pub mod PassingLaws
+pub mod RunLaws
+pub mod DecimalLaws
+pub mod TokenLaws
+pub mod SanLaws
+pub mod MovetextLaws
+pub mod SpellingLaws
+pub mod ReadableLaws
+pub mod TagTextLaws
+pub mod TagSpellingLaws
+pub mod TagReadLaws
+pub mod TagsLaws
+pub mod MarksLaws
+pub mod HeadsAgainLaws
+pub mod TakenLaws
+pub mod RoundTripLaws

@@ -1,0 +1,3 @@
+pub mod TagSpelling
+pub mod MovetextSpelling
+pub mod RoundTrip
