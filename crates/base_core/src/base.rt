@@ -97,4 +97,11 @@ impl Base {
     {
         self.unsaved
     }
+
+    /// Where the records of its games end, and so its games file.
+    pub fn end(&self) -> u64
+        ensures end { result ≡ self.now.end }
+    {
+        self.store.end()
+    }
 }

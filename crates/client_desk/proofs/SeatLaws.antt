@@ -1,12 +1,15 @@
 -- What a seat keeps as it changes.
 use Rattle.std.specs.Option.{option_map_or}
-use Rattle.std.proofs.Common.{◌≡◌, ℕ, zero, suc, ◌+◌, ◌-◌, ◌<◌, ◌≤◌, ◌==◌, ◌&&◌, Bool, true, false, cond, List, [], ◌∷◌, ◌++◌, Option, Some, None, nat_lt, length, map, get_or, slice_get, set, take, drop, All, IfSome, Result, Ok, Err, OnOk, OnErr, option_map, length-append, refl, sym, ap, subst, ◌∙◌, arith}
+use Rattle.std.specs.Prelude.{IfErr}
+use Rattle.std.proofs.Common.{◌≡◌, replicate, ℕ, zero, suc, ◌+◌, ◌-◌, ◌<◌, ◌≤◌, ◌==◌, ◌&&◌, Bool, true, false, cond, List, [], ◌∷◌, ◌++◌, Option, Some, None, nat_lt, length, map, get_or, slice_get, set, take, drop, All, IfSome, Result, Ok, Err, OnOk, OnErr, option_map, length-append, refl, sym, ap, subst, ◌∙◌, arith}
 use Rattle.std.proofs.lemmas.Bool.{eqb-true, eqb-false, ltb-true, ltb-false}
 use Rattle.std.proofs.lemmas.List.{length-set, length-drop, length-take, length-map, get_or_past, get_or-set_same, get_or-set_other}
 use Rattle.std.proofs.lemmas.List.Elements.{All-map}
-use Rattle.game_filter.specs.Renumbering.{Numbering, renumbered}
+use Rattle.game_filter.specs.Renumbering.{renumbered}
 use Rattle.filter_seat.specs.declared.saved.SavedFilter.{SavedFilter}
-use Rattle.filter_seat.specs.SavedFilters.{most_saved, place_of, kept_at, kept_in, dropped_in, to_start, kept_to_start, kept_renumbered, without_last}
+use Rattle.filter_seat.specs.SavedFilters.{most_saved, place_of, kept_at, kept_in, dropped_in, kept_with}
+use Rattle.filter_seat.specs.Following.{Moving, filter_after}
+use Rattle.filter_seat.proofs.FollowLaws.{longer}
 use Rattle.filter_seat.proofs.SavedLaws.{length_to_start}
 use Rattle.tree_rows.specs.declared.hit.GameHit.{GameHit}
 use Rattle.tree_live.specs.declared.entry.Entry.{Entry}
@@ -16,7 +19,7 @@ use Rattle.tree_live.specs.Views.{Told}
 use Rattle.client_desk.specs.declared.change.Change.{Change}
 use Rattle.client_desk.specs.declared.change.Change.TheVariants.{Added, Edited, Renumbered}
 use Rattle.client_desk.specs.Seats.{Seated, IsSeat, IsSlot, GoesBy, SeatTold}
-use Rattle.client_desk.specs.Changes.{Fits, Follows, filter_after, kept_after, game_with, watch_after, most_told}
+use Rattle.client_desk.specs.Changes.{Fits, Follows, game_with, moving_of, most_told, watch_after}
 use Rattle.client_desk.proofs.GameLaws.{ins, same-number, ins-under, ins-added, ins-edited, marks-to_start, ins-renumbered, length-renumbered, few-renumbered}
 
 -- ---- all slots
@@ -190,15 +193,24 @@ slot-below k count there e = ltb-true k count (and-first (nat_lt k count) there 
 
 -- ---- a change
 
-long-after : (entry : Option ℕ) (change : Change) (plies others : List (Option ℕ)) → length plies ≡ length others → length (filter_after entry change plies) ≡ length (filter_after None change others)
-long-after entry (Added hits) plies others same = omega (arith, same, length-append plies (entry ∷ []), length-append others (None ∷ []))
+-- One entry more.
+one-more : (n : ℕ) (entry : Option ℕ) → replicate (n + 1 - n) entry ≡ entry ∷ []
+one-more n entry =
+    let one : n + 1 - n ≡ 1 = omega arith in ap (λ (k : ℕ). replicate k entry) one
+
+long-after : (entry : Option ℕ) (change : Change) (plies others : List (Option ℕ)) → length plies ≡ length others
+    → length (filter_after entry (moving_of change (length plies)) plies) ≡ length (filter_after None (moving_of change (length plies)) others)
+long-after entry (Added hits) plies others same =
+    longer entry (length plies + 1) plies (omega arith) ∙ sym (longer None (length plies + 1) others (omega (arith, same)))
 long-after entry (Edited game true hits) plies others same = length_to_start game plies ∙ same ∙ sym (length_to_start game others)
 long-after entry (Edited game false hits) plies others same = same
 long-after entry (Renumbered numbering) plies others same = length-renumbered numbering.to plies others same
 
 goes-after : (entry : Option ℕ) (change : Change) (old : Seated) (k : ℕ) (watch : Watched) → Fits change old → GoesBy old.filter watch
-    → GoesBy (filter_after entry change old.filter) (watch_after entry change old k watch)
-goes-after entry (Added hits) old k watch fits goes = ins-added old.filter watch.games entry hits (old.slots.first + k) goes
+    → GoesBy (filter_after entry (moving_of change (length old.filter)) old.filter) (watch_after entry change old k watch)
+goes-after entry (Added hits) old k watch fits goes =
+    subst (λ (more : List (Option ℕ)). GoesBy (old.filter ++ more) (watch_after entry (Added hits) old k watch)) (sym (one-more (length old.filter) entry))
+    (ins-added old.filter watch.games entry hits (old.slots.first + k) goes)
 goes-after entry (Edited game true hits) old k watch fits goes =
     ins-edited old.filter watch.games game hits (old.slots.first + k) goes fits ∙ sym (marks-to_start game old.filter)
 goes-after entry (Edited game false hits) old k watch fits goes = ins-edited old.filter watch.games game hits (old.slots.first + k) goes fits
@@ -208,13 +220,13 @@ pub seat-followed : (entry : Option ℕ) (change : Change) (old new : Seated) �
     → Follows entry change old new → IsSeat new
 seat-followed entry change old new seat fits few follows = record {
   few = few;
-  kept = omega (arith, seat.kept, ap (λ (l : List SavedFilter). length l) follows.saved, length-map old.saved (kept_after change));
+  kept = omega (arith, seat.kept, ap (λ (l : List SavedFilter). length l) follows.saved, length-map old.saved (kept_with (filter_after None (moving_of change (length old.filter)))));
   saved = subst (λ (l : List SavedFilter). All (λ (kept : SavedFilter). length kept.plies ≡ length new.filter) l) (sym follows.saved)
-      (All-map (λ (kept : SavedFilter). length kept.plies ≡ length new.filter) (kept_after change) old.saved
+      (All-map (λ (kept : SavedFilter). length kept.plies ≡ length new.filter) (kept_with (filter_after None (moving_of change (length old.filter)))) old.saved
       (λ k d within. sym (ap (λ (l : List (Option ℕ)). length l) follows.filter
       ∙ long-after entry change old.filter (get_or old.saved k d).plies (sym (seat.saved k d within)))));
   watches = subst (λ (f : List (Option ℕ)). EachWatch (GoesBy f) new.slots) (sym follows.filter)
-      (each-changed (GoesBy old.filter) (GoesBy (filter_after entry change old.filter)) (watch_after entry change old) old.slots new.slots
+      (each-changed (GoesBy old.filter) (GoesBy (filter_after entry (moving_of change (length old.filter)) old.filter)) (watch_after entry change old) old.slots new.slots
       (λ k watch goes. goes-after entry change old k watch fits goes) follows.watches seat.watches);
   within = within-changed (watch_after entry change old) old.slots new.slots follows.watches follows.count seat.within;
 }
@@ -242,44 +254,37 @@ told-edited told slots before after first game hits plies entry e =
     subst (λ (o : Option ℕ). AreTold told slots (λ k watch. all_changes watch.games (with_game game (game_with o hits (first + k)) watch.games)) before after)
     (sym (entry-at plies game entry e))
 
-pub few-edited : (game : ℕ) (plies after : List (Option ℕ)) → after ≡ to_start game plies → length after ≡ length plies
-few-edited game plies after is = ap (λ (l : List (Option ℕ)). length l) is ∙ length_to_start game plies
+-- The filter is not too long, whether or not all filters followed.
+abbrev came : Moving → ℕ
+came Moving.nothing = 0
+came (Moving.added games) = games
+came (Moving.started game) = 0
+came (Moving.numbered numbering) = 0
 
-pub few-stay : (to plies after : List (Option ℕ)) → after ≡ renumbered to plies → length plies ≤ 16777214 → length after ≤ 16777214
-few-stay to plies after is few = omega (arith, few, few-renumbered to plies, ap (λ (l : List (Option ℕ)). length l) is)
+abbrev Came : Moving → List (Option ℕ) → Type 0
+Came moving after = (games : ℕ) × ((moving ≡ Moving.added games) × (length after ≤ games))
 
-map-same : (saved : List SavedFilter) (f : SavedFilter → SavedFilter) → ((kept : SavedFilter) → f kept ≡ kept) → saved ≡ map f saved
-map-same [] f same = refl
-map-same (kept ∷ saved) f same = ap (λ (k : SavedFilter). k ∷ saved) (sym (same kept)) ∙ ap (λ (l : List SavedFilter). f kept ∷ l) (map-same saved f same)
+few-came : (change : Change) (old : Seated) (after : List (Option ℕ)) → Fits change old → Came (moving_of change (length old.filter)) after → length after ≤ 16777214
+few-came (Added hits) old after fits part =
+    let games : length old.filter + 1 ≡ part.0 = ap came part.1.0 in
+    let room : length old.filter < 16777214 = fits in omega (arith, room, games, part.1.1)
+few-came (Edited game true hits) old after fits part = absurd cc
+few-came (Edited game false hits) old after fits part = absurd cc
+few-came (Renumbered numbering) old after fits part = absurd cc
 
-pub follows-added : {A E : Type 0} (r : Result A E) (entry : Option ℕ) (hits : List (Option GameHit)) (old new : Seated) → OnOk r (new.filter ≡ old.filter ++ entry ∷ [])
-    → OnOk r (new.saved ≡ map without_last old.saved)
-    → OnOk r (AreChanged (λ k watch. record watch { games = with_game (length old.filter) (game_with entry hits (old.slots.first + k)) watch.games }) old.slots new.slots)
-    → (new.slots.first ≡ old.slots.first) × (new.slots.count ≡ old.slots.count) → OnOk r (Follows entry (Added hits) old new)
-follows-added (Ok x) entry hits old new filter saved watches slots =
-    record { filter = filter; saved = saved; watches = watches; first = slots.0; count = slots.1 }
-follows-added (Err e) entry hits old new filter saved watches slots = tt
+few-followed : (entry : Option ℕ) (change : Change) (old : Seated) → Fits change old → length old.filter ≤ 16777214 → length (filter_after entry (moving_of change (length old.filter)) old.filter) ≤ 16777214
+few-followed entry (Added hits) old fits few =
+    let room : length old.filter < 16777214 = fits in omega (arith, room, longer entry (length old.filter + 1) old.filter (omega arith))
+few-followed entry (Edited game true hits) old fits few = omega (arith, few, length_to_start game old.filter)
+few-followed entry (Edited game false hits) old fits few = few
+few-followed entry (Renumbered numbering) old fits few = omega (arith, few, few-renumbered numbering.to old.filter)
 
-pub follows-edited : {A E : Type 0} (r : Result A E) (entry : Option ℕ) (game : ℕ) (replaced : Bool) (hits : List (Option GameHit)) (old new : Seated)
-    → OnOk r (new.filter ≡ cond replaced (to_start game old.filter) old.filter)
-    → OnOk r (new.saved ≡ cond replaced (map (kept_to_start game) old.saved) old.saved)
-    → OnOk r (AreChanged (λ k watch. record watch { games = with_game game (game_with (get_or old.filter game None) hits (old.slots.first + k)) watch.games }) old.slots new.slots)
-    → (new.slots.first ≡ old.slots.first) × (new.slots.count ≡ old.slots.count) → OnOk r (Follows entry (Edited game replaced hits) old new)
-follows-edited (Ok x) entry game true hits old new filter saved watches slots =
-    record { filter = filter; saved = saved; watches = watches; first = slots.0; count = slots.1 }
-follows-edited (Ok x) entry game false hits old new filter saved watches slots = record {
-  filter = filter;
-  saved = saved ∙ map-same old.saved (kept_after (Edited game false hits)) (λ kept. refl);
-  watches = watches;
-  first = slots.0;
-  count = slots.1;
-}
-follows-edited (Err e) entry game replaced hits old new filter saved watches slots = tt
+few-by : {A E : Type 0} (r : Result A E) (entry : Option ℕ) (change : Change) (old : Seated) (after : List (Option ℕ)) → Fits change old → length old.filter ≤ 16777214
+    → OnOk r (after ≡ filter_after entry (moving_of change (length old.filter)) old.filter) → IfErr r (λ _. Came (moving_of change (length old.filter)) after) → length after ≤ 16777214
+few-by (Ok x) entry change old after fits few filter part = omega (arith, ap (λ (l : List (Option ℕ)). length l) filter, few-followed entry change old fits few)
+few-by (Err e) entry change old after fits few filter part = few-came change old after fits part
 
-pub follows-renumbered : {A E : Type 0} (r : Result A E) (entry : Option ℕ) (numbering : Numbering) (old new : Seated) → OnOk r (new.filter ≡ renumbered numbering.to old.filter)
-    → OnOk r (new.saved ≡ map (kept_renumbered numbering.to) old.saved)
-    → OnOk r (AreChanged (λ k watch. record watch { games = renumbered numbering.to watch.games }) old.slots new.slots)
-    → (new.slots.first ≡ old.slots.first) × (new.slots.count ≡ old.slots.count) → OnOk r (Follows entry (Renumbered numbering) old new)
-follows-renumbered (Ok x) entry numbering old new filter saved watches slots =
-    record { filter = filter; saved = saved; watches = watches; first = slots.0; count = slots.1 }
-follows-renumbered (Err e) entry numbering old new filter saved watches slots = tt
+pub few-after : {A E : Type 0} (r : Result A E) (entry : Option ℕ) (change : Change) (old : Seated) (moving : Moving) (mid after : List (Option ℕ)) → Fits change old → length old.filter ≤ 16777214
+    → moving ≡ moving_of change (length old.filter) → mid ≡ old.filter → OnOk r (after ≡ filter_after entry moving mid) → IfErr r (λ _. Came moving after) → length after ≤ 16777214
+few-after r entry change old moving mid after fits few same filter =
+    rw (same, filter) (few-by r entry change old after fits few)

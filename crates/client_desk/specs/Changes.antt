@@ -1,8 +1,8 @@
 -- What a change of a base brings to a seat (this project's own).
 use Rattle.std.specs.Prelude.{◌≡◌, ℕ, ◌+◌, ◌<◌, List, [], ◌∷◌, ◌++◌, Option, None, if◌then◌else◌, is_some, length, map, slice_index_or}
 use Rattle.game_filter.specs.Renumbering.{renumbered}
-use Rattle.filter_seat.specs.SavedFilters.{to_start}
-use Rattle.filter_seat.specs.declared.saved.SavedFilter.{SavedFilter}
+use Rattle.filter_seat.specs.Following.{Moving, filter_after}
+use Rattle.filter_seat.specs.SavedFilters.{kept_with}
 use Rattle.tree_rows.specs.declared.hit.GameHit.{GameHit}
 use Rattle.tree_live.specs.declared.entry.Entry.{Entry}
 use Rattle.tree_live.specs.Watching.{Watched, all_changes, staying, with_game}
@@ -17,15 +17,11 @@ Fits (Added hits) seat = length seat.filter < 16777214
 Fits (Edited game replaced hits) seat = game < length seat.filter
 Fits (Renumbered numbering) seat = length numbering.to ≡ length seat.filter
 
--- A filter after a change: an added game has this entry, a replaced game that is in is in at ply 0, and the games that stay keep their entries.
-abbrev pub filter_after : Option ℕ → Change → List (Option ℕ) → List (Option ℕ)
-filter_after entry (Added hits) plies = plies ++ entry ∷ []
-filter_after entry (Edited game replaced hits) plies = if replaced then to_start game plies else plies
-filter_after entry (Renumbered numbering) plies = renumbered numbering.to plies
-
--- A filter that is kept after a change: an added game is out of it.
-abbrev pub kept_after : Change → SavedFilter → SavedFilter
-kept_after change kept = record kept { plies = filter_after None change kept.plies }
+-- What a change moves in filters over so many games: a game that is replaced starts anew.
+abbrev pub moving_of : Change → ℕ → Moving
+moving_of (Added hits) games = Moving.added (games + 1)
+moving_of (Edited game replaced hits) games = if replaced then Moving.started game else Moving.nothing
+moving_of (Renumbered numbering) games = Moving.numbered numbering
 
 -- A game with this entry in the filter, and with its hit in the slot that is the view of this number.
 abbrev pub game_with : Option ℕ → List (Option GameHit) → ℕ → Entry
@@ -52,8 +48,8 @@ most_told entry change seat k watch = changes_of entry change seat.filter (seat.
 
 -- A seat follows a change, an added game having this entry in its filter. It keeps its slots.
 pub record Follows (entry : Option ℕ) (change : Change) (old new : Seated) : Type 0 where
-  pub filter : new.filter ≡ filter_after entry change old.filter
-  pub saved : new.saved ≡ map (kept_after change) old.saved
+  pub filter : new.filter ≡ filter_after entry (moving_of change (length old.filter)) old.filter
+  pub saved : new.saved ≡ map (kept_with (filter_after None (moving_of change (length old.filter)))) old.saved
   pub watches : AreChanged (watch_after entry change old) old.slots new.slots
   pub first : new.slots.first ≡ old.slots.first
   pub count : new.slots.count ≡ old.slots.count

@@ -2,6 +2,7 @@
 ghost use Rattle.std.specs.Prelude.{◌≡◌, ℕ, ◌+◌, ◌≤◌, length};
 ghost use Rattle.tree_live.specs.Slots.{in_slot};
 
+use filter_seat::Moved;
 use game_filter::Renumbering;
 use tree_rows::GameHit;
 
@@ -22,6 +23,29 @@ pub enum Change {
     },
     /// The games have become those that stay.
     Renumbered(Renumbering),
+}
+
+impl Change {
+    ghost use Rattle.std.specs.Prelude.{◌≡◌, ◌<◌};
+    ghost use Rattle.filter_seat.specs.Following.{told_by};
+    ghost use Rattle.client_desk.specs.Changes.{moving_of};
+
+    /// What it moves in filters over so many games.
+    pub(crate) fn moved(&self, games: u32) -> Moved<'_>
+        requires room { games < u32.MAX }
+        ensures moved { told_by result ≡ moving_of self.now games }
+    {
+        match self {
+            Change::Added { .. } => Moved::Added(games + 1),
+            Change::Edited {
+                game,
+                replaced: true,
+                ..
+            } => Moved::Started(u64::from(*game)),
+            Change::Edited { .. } => Moved::Nothing,
+            Change::Renumbered(renumbering) => Moved::Renumbered(renumbering),
+        }
+    }
 }
 
 /// The hits of the slots of a seat, the first of which is the view with this number.

@@ -1,7 +1,7 @@
 //! The parts of a seat.
 use crate::change::{Change, hits_from};
-use filter_seat::{SavedFilter, leave_out, put_at_start, renumber_all};
-use game_filter::{Filter, Renumbering};
+use filter_seat::{SavedFilter, follow};
+use game_filter::Filter;
 use std::alloc::{AllocError, Global};
 use std::marker::Model;
 use tree_live::{Slots, TreeView};
@@ -29,13 +29,11 @@ impl Model for Parts {
 }
 
 impl Parts {
-    ghost use Rattle.std.specs.Prelude.{◌≡◌, ℕ, ◌+◌, ◌<◌, ◌≤◌, [], ◌∷◌, ◌++◌, if◌then◌else◌, Option, None, All, is_some, length, map, replicate, slice_index_or, OnOk};
-    ghost use Rattle.game_filter.specs.Renumbering.{renumbered};
-    ghost use Rattle.filter_seat.specs.SavedFilters.{kept_renumbered, kept_to_start, to_start, without_last};
-    ghost use Rattle.tree_live.specs.Watching.{all_changes, staying, with_game};
+    ghost use Rattle.std.specs.Prelude.{◌≡◌, ℕ, ◌+◌, ◌<◌, ◌≤◌, [], Option, None, is_some, length, replicate, OnOk};
+    ghost use Rattle.tree_live.specs.Watching.{all_changes, with_game};
     ghost use Rattle.tree_live.specs.Slots.{AreChanged, AreShown, AreTold};
     ghost use Rattle.client_desk.specs.Seats.{IsSeat, new_seat};
-    ghost use Rattle.client_desk.specs.Changes.{Fits, Follows, game_with, most_told};
+    ghost use Rattle.client_desk.specs.Changes.{Fits, Follows, game_with, most_told, watch_after};
 
     /// Brings a change to all parts; an added game has this entry in the filter.
     pub fn follow(
@@ -54,68 +52,47 @@ impl Parts {
         ensures few { length self.new.filter ≤ 16777214 }
         ensures slots { (self.new.slots.first ≡ self.old.slots.first) × (self.new.slots.count ≡ self.old.slots.count) }
     {
-        match change {
-            Change::Added { hits } => self.add(alloc, views, hits, entry),
-            Change::Edited {
-                game,
-                replaced,
-                hits,
-            } => self.edit(alloc, views, *game, *replaced, hits),
-            Change::Renumbered(renumbering) => self.renumber(alloc, views, renumbering),
-        }
+        let games = self.filter.len();
+        self.show(alloc, views, change, entry)?;
+        let moved = change.moved(games);
+        follow(
+            alloc,
+            &mut self.filter,
+            self.saved.as_mut_slice(),
+            &moved,
+            entry,
+        )
     }
 
-    // Brings an added game to all parts.
-    fn add(
+    // Brings a change to the slots.
+    fn show(
         &mut self,
         alloc: Global,
         views: &mut [Option<Box<dyn TreeView>>],
-        hits: &[Option<GameHit>; 8],
+        change: &Change,
         entry: Option<u32>,
     ) -> Result<(), AllocError>
         requires seat { IsSeat self.old }
-        requires room { length self.old.filter < 16777214 }
+        requires fits { Fits change.now self.old }
         requires shown { AreShown (λ b. rows b) self.old.slots views.old }
-        ensures filter { OnOk result (self.new.filter ≡ self.old.filter ++ entry ∷ []) }
-        ensures saved { OnOk result (self.new.saved ≡ map without_last self.old.saved) }
-        ensures watches { OnOk result (AreChanged (λ k watch. record watch { games = with_game (length self.old.filter) (game_with entry hits.now (self.old.slots.first + k)) watch.games }) self.old.slots self.new.slots) }
+        ensures filter { self.new.filter ≡ self.old.filter }
+        ensures saved { self.new.saved ≡ self.old.saved }
+        ensures watches { OnOk result (AreChanged (watch_after entry change.now self.old) self.old.slots self.new.slots) }
         ensures shown { OnOk result (AreShown (λ b. rows b) self.new.slots views.new) }
-        ensures told { AreTold (λ b. told b) self.old.slots (λ k watch. all_changes watch.games (with_game (length self.old.filter) (game_with entry hits.now (self.old.slots.first + k)) watch.games)) views.old views.new }
-        ensures few { length self.new.filter ≤ 16777214 }
+        ensures told { AreTold (λ b. told b) self.old.slots (most_told entry change.now self.old) views.old views.new }
         ensures slots { (self.new.slots.first ≡ self.old.slots.first) × (self.new.slots.count ≡ self.old.slots.count) }
     {
-        let game = self.filter.len();
-        self.tell(alloc, views, game, hits, entry)?;
-        self.filter.push(alloc, entry)?;
-        leave_out(alloc, self.saved.as_mut_slice())
-    }
-
-    // Brings an edited game to all parts.
-    fn edit(
-        &mut self,
-        alloc: Global,
-        views: &mut [Option<Box<dyn TreeView>>],
-        game: u32,
-        replaced: bool,
-        hits: &[Option<GameHit>; 8],
-    ) -> Result<(), AllocError>
-        requires seat { IsSeat self.old }
-        requires there { game < length self.old.filter }
-        requires shown { AreShown (λ b. rows b) self.old.slots views.old }
-        ensures filter { OnOk result (self.new.filter ≡ (if replaced then to_start game self.old.filter else self.old.filter)) }
-        ensures saved { OnOk result (self.new.saved ≡ (if replaced then map (kept_to_start game) self.old.saved else self.old.saved)) }
-        ensures watches { OnOk result (AreChanged (λ k watch. record watch { games = with_game game (game_with (slice_index_or self.old.filter game None) hits.now (self.old.slots.first + k)) watch.games }) self.old.slots self.new.slots) }
-        ensures shown { OnOk result (AreShown (λ b. rows b) self.new.slots views.new) }
-        ensures told { AreTold (λ b. told b) self.old.slots (λ k watch. all_changes watch.games (with_game game (game_with (slice_index_or self.old.filter game None) hits.now (self.old.slots.first + k)) watch.games)) views.old views.new }
-        ensures few { length self.new.filter ≡ length self.old.filter }
-        ensures slots { (self.new.slots.first ≡ self.old.slots.first) × (self.new.slots.count ≡ self.old.slots.count) }
-    {
-        let entry = self.filter.get(game);
-        self.tell(alloc, views, game, hits, entry)?;
-        if replaced {
-            put_at_start(&mut self.filter, self.saved.as_mut_slice(), game);
+        match change {
+            Change::Added { hits } => {
+                let game = self.filter.len();
+                self.tell(alloc, views, game, hits, entry)
+            }
+            Change::Edited { game, hits, .. } => {
+                let entry = self.filter.get(*game);
+                self.tell(alloc, views, *game, hits, entry)
+            }
+            Change::Renumbered(renumbering) => self.slots.renumbered(alloc, views, renumbering),
         }
-        Ok(())
     }
 
     // Brings a game with this entry in the filter to the slots.
@@ -141,29 +118,6 @@ impl Parts {
         let own = hits_from(self.first, hits);
         self.slots
             .game_changed(alloc, views, game, &own, entry.is_some())
-    }
-
-    // Brings new numbers of the games to all parts.
-    fn renumber(
-        &mut self,
-        alloc: Global,
-        views: &mut [Option<Box<dyn TreeView>>],
-        renumbering: &Renumbering,
-    ) -> Result<(), AllocError>
-        requires seat { IsSeat self.old }
-        requires games { length renumbering.now.to ≡ length self.old.filter }
-        requires shown { AreShown (λ b. rows b) self.old.slots views.old }
-        ensures filter { OnOk result (self.new.filter ≡ renumbered renumbering.now.to self.old.filter) }
-        ensures saved { OnOk result (self.new.saved ≡ map (kept_renumbered renumbering.now.to) self.old.saved) }
-        ensures watches { OnOk result (AreChanged (λ k watch. record watch { games = renumbered renumbering.now.to watch.games }) self.old.slots self.new.slots) }
-        ensures shown { OnOk result (AreShown (λ b. rows b) self.new.slots views.new) }
-        ensures told { AreTold (λ b. told b) self.old.slots (λ k watch. all_changes watch.games (staying renumbering.now.to watch.games)) views.old views.new }
-        ensures few { length self.new.filter ≤ 16777214 }
-        ensures slots { (self.new.slots.first ≡ self.old.slots.first) × (self.new.slots.count ≡ self.old.slots.count) }
-    {
-        self.slots.renumbered(alloc, views, renumbering)?;
-        renumber_all(&mut self.filter, self.saved.as_mut_slice(), renumbering);
-        Ok(())
     }
 
     /// Keeps and watches nothing from now on.

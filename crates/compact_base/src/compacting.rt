@@ -13,6 +13,7 @@ use crate::copying::copy_games;
 use crate::devices::commit;
 use crate::drafting::draft_of;
 use crate::fault::CompactError;
+use crate::numbering::numbering_of;
 use base_core::Base;
 use base_files::Files;
 use game_filter::Renumbering;
@@ -58,7 +59,8 @@ pub fn compact<F: Files>(
     ensures counts { F.faults files.old ≤ F.faults files.new }
     ensures cause { IfErr result (λ error. error ≡ CompactError.Failed → Rose (F.faults files.old) (F.faults files.new)) }
 {
-    let (draft, renumbering) = draft_of(alloc, base)?;
+    let draft = draft_of(alloc, base)?;
+    let renumbering = numbering_of(alloc, base)?;
     let (names, index) = draft.write(alloc)?;
     if let Err(error) = write_files(base, files, buf, names.as_slice(), index.as_slice()) {
         return Err(error);

@@ -6,6 +6,8 @@ mod copying;
 mod devices;
 mod drafting;
 mod fault;
+mod numbering;
 
 pub use compacting::compact;
 pub use fault::CompactError;
+pub use numbering::numbering_of;

@@ -25,8 +25,7 @@ is_of event head = not head.deleted && (bytes_eq head.event event && not (bytes_
 
 -- The event's games, in order.
 unfoldable pub event_games : List ℕ → List Head → List Pairing
-event_games event heads =
-    map (λ (head : Head). record { white = head.white; black = head.black; result = head.result }) (filter (is_of event) heads)
+event_games event heads = map (λ (head : Head). record { white = head.white; black = head.black; result = head.result }) (filter (is_of event) heads)
 
 -- Whether a result is known.
 abbrev pub has_result : Outcome → Bool
@@ -99,8 +98,7 @@ stands_before games a b =
 -- Ranked names with one more, behind those that stand before it.
 abbrev pub with_ranked : List Pairing → List (List ℕ) → List ℕ → List (List ℕ)
 with_ranked games [] name = name ∷ []
-with_ranked games (first ∷ names) name =
-    if stands_before games first name then first ∷ with_ranked games names name else name ∷ first ∷ names
+with_ranked games (first ∷ names) name = if stands_before games first name then first ∷ with_ranked games names name else name ∷ first ∷ names
 
 -- The names in the order of their ranks.
 unfoldable pub ranked : List Pairing → List (List ℕ)
@@ -117,8 +115,7 @@ sign Open = 42
 
 -- The signs of the games of a name with another one, in order and from its side.
 unfoldable pub signs : List Pairing → List ℕ → List ℕ → List ℕ
-signs games row column =
-    map (λ (m : Meeting). sign m.score) (filter (λ (m : Meeting). bytes_eq column m.other) (meetings row games))
+signs games row column = map (λ (m : Meeting). sign m.score) (filter (λ (m : Meeting). bytes_eq column m.other) (meetings row games))
 
 -- A dot in the place of no sign.
 abbrev pub or_dot : List ℕ → List ℕ
@@ -127,8 +124,7 @@ or_dot (first ∷ more) = first ∷ more
 
 -- The cells of a name, each with a space before it: a cross on the diagonal.
 abbrev pub cells : List Pairing → List (List ℕ) → List ℕ → List ℕ
-cells games columns row =
-    flat_map (λ (column : List ℕ). 32 ∷ (if bytes_eq row column then codes "x" else or_dot (signs games row column))) columns
+cells games columns row = flat_map (λ (column : List ℕ). 32 ∷ (if bytes_eq row column then codes "x" else or_dot (signs games row column))) columns
 
 -- ---- the table
 
@@ -163,8 +159,7 @@ points_text half = decimal (half / 2) ++ (if half % 2 == 0 then codes ".0" else 
 
 -- The rank, the name, its points and its games, and the cells.
 unfoldable pub line_text : ℕ → CrossLine → List ℕ
-line_text rank line =
-    (decimal rank ++ (32 ∷ line.name ++ (32 ∷ points_text line.half_points ++ 47 ∷ decimal line.games))) ++ (line.cells ++ 10 ∷ [])
+line_text rank line = (decimal rank ++ (32 ∷ line.name ++ (32 ∷ points_text line.half_points ++ 47 ∷ decimal line.games))) ++ (line.cells ++ 10 ∷ [])
 
 abbrev pub lines_text : ℕ → List CrossLine → List ℕ
 lines_text rank [] = []

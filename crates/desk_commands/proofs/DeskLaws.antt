@@ -12,7 +12,7 @@ use Rattle.shell_commands.proofs.MarkLaws.{CountAlike, right_alike}
 use Rattle.shell_commands.proofs.SlotLaws.{task_others, task_stays}
 use Rattle.shell_commands.specs.Tasks.{tasks}
 use Rattle.shell_commands.specs.Watching.{ViewsDone, touches, watches}
-use Rattle.base_core.specs.Base.{Held}
+use Rattle.base_core.specs.Base.{Base, Held}
 use Rattle.shell_state.proofs.TableLaws.{in_tables}
 use Rattle.shell_state.specs.Meeting.{tree_hits}
 use Rattle.shell_state.specs.Slots.{Slot, exactly_on, slot_at, table_of}
@@ -25,8 +25,8 @@ use Rattle.tree_rows.specs.declared.row.Row.{Row}
 use Rattle.view_commands.specs.Views.{AreLeft, AreRight, AreToldAtMost, IsRight, IsToldAtMost, changes_of, is_own, is_shown, slot_hits}
 use Rattle.view_commands.proofs.ToldLaws.{told_same}
 use Rattle.view_commands.specs.declared.window.Window.{Window}
+use Rattle.desk_commands.proofs.BringLaws.{none_brought}
 use Rattle.desk_commands.proofs.KindLaws.{public_seat}
-use Rattle.desk_commands.proofs.LendLaws.{brought_by_kind, brought_is}
 use Rattle.desk_commands.proofs.OwnLaws.{both, either, far_own, is_one_of, not_own, number_of, one_of, own_is, owner_has}
 use Rattle.desk_commands.proofs.SharedLaws.{private-keeps, same-shared}
 use Rattle.desk_commands.proofs.ShowLaws.{Alike, count_alike, right_unshown, told_behind}
@@ -82,28 +82,21 @@ each_split (seat ∷ first) own old bring second = ap (λ (l : List Seat). bring
 pub seen_own : (d : Desk) (c : ℕ) (t : Task) → c < length d.seats → seen_by (desk_by d c t) c ≡ (own_tasks d c).after (seen_by d c) t
 seen_own d c t less =
     let s : State = (own_tasks d c).after (seen_by d c) t in
-    let bring : Seat → Seat = brought t.order t.body d.shared s.shared in
+    let bring : Seat → Seat = brought t.order d.shared.base s.shared.base in
     let there = got_there d.seats c less in
     ap (λ (o : Option Seat). record { shared = s.shared; seat = unwrap_or o (first_seat 0); slots = s.slots })
     (own_seat c s.seat bring d.seats ∙ ap (λ (o : Option Seat). option_map (λ (seat : Seat). s.seat) o) there.1)
 
-still_none : (kind : Kind) (t : Task) (before after : Shared) (seat : Seat) → (kind ≡ Private) ⊎ (kind ≡ Public) → brought_by_kind kind t before after seat ≡ seat
-still_none Private t before after seat is = refl
-still_none Public t before after seat is = refl
-still_none _ t before after seat (inl is) = absurd cc
-still_none _ t before after seat (inr is) = absurd cc
-
-brings_none : (order : Order) (body : List ℕ) (before after : Shared) (o : Option Seat) → (order_kind order ≡ Private) ⊎ (order_kind order ≡ Public) → option_map (brought order body before after) o ≡ o
-brings_none order body before after None is = refl
-brings_none order body before after (Some seat) is =
-    ap (λ (x : Seat). Some x) (brought_is order body before after seat ∙ still_none (order_kind order) (task order body) before after seat is)
+brings_none : (order : Order) (before after : Base) (o : Option Seat) → (order_kind order ≡ Private) ⊎ (order_kind order ≡ Public) → option_map (brought order before after) o ≡ o
+brings_none order before after None is = refl
+brings_none order before after (Some seat) is = ap (λ (x : Seat). Some x) (none_brought order before after seat is)
 
 -- The filter of another client behind a command that brings nothing to it.
 other_filter : (d : Desk) (c : ℕ) (t : Task) (other : ℕ) → (c ≡ other → ⊥) → (order_kind t.order ≡ Private) ⊎ (order_kind t.order ≡ Public) → (seen_by (desk_by d c t) other).seat.filter ≡ (seen_by d other).seat.filter
 other_filter d c t other differ is =
     let s : State = (own_tasks d c).after (seen_by d c) t in
-    let bring : Seat → Seat = brought t.order t.body d.shared s.shared in
-    ap (λ (o : Option Seat). (unwrap_or o (first_seat 0)).filter) (other_seat other c s.seat bring d.seats differ ∙ brings_none t.order t.body d.shared s.shared (slice_get d.seats other) is)
+    let bring : Seat → Seat = brought t.order d.shared.base s.shared.base in
+    ap (λ (o : Option Seat). (unwrap_or o (first_seat 0)).filter) (other_seat other c s.seat bring d.seats differ ∙ brings_none t.order d.shared.base s.shared.base (slice_get d.seats other) is)
 
 -- Of a private command another client sees nothing.
 seen_private : (d : Desk) (c : ℕ) (t : Task) (other : ℕ) → (c ≡ other → ⊥) → order_kind t.order ≡ Private → Alike (seen_by d other) (seen_by (desk_by d c t) other)
@@ -132,7 +125,7 @@ seen_alike d c t other differ fit unseen = by (order_kind t.order) refl
         count_alike ((own_tasks d c).after (seen_by d other) t) (seen_by (desk_by d c t) other) (seen_public d c t other differ is) board
         ∙ public_alike (window_of d.clients c) t.order t.body (seen_by d other) is unseen board
     by Adds is = λ board.
-        ap (λ (o : Option Seat). tree_hits (exactly_on board) (unwrap_or o (first_seat 0)).filter s.shared.base.games) (other_seat other c s.seat (brought t.order t.body d.shared s.shared) d.seats differ)
+        ap (λ (o : Option Seat). tree_hits (exactly_on board) (unwrap_or o (first_seat 0)).filter s.shared.base.games) (other_seat other c s.seat (brought t.order d.shared.base s.shared.base) d.seats differ)
         ∙ adds_out (window_of d.clients c) (exactly_on board) t.order t.body (seen_by d c) (slice_get d.seats other) is fit
     by Moves is = absurd (moves_seen t.order is unseen)
 

@@ -1,9 +1,7 @@
 pub mod SharedLaws
 pub mod KindLaws
-pub mod LendLaws
+pub mod BringLaws
 pub mod ListLaws
-pub mod BackLaws
-pub mod FitLaws
 pub mod TagLaws
 pub mod OwnLaws
 pub mod ShowLaws

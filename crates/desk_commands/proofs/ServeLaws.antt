@@ -28,7 +28,7 @@ use Rattle.view_commands.specs.declared.window.Window.{Window}
 use Rattle.desk_commands.proofs.KindLaws.{carry_behind}
 use Rattle.desk_commands.proofs.TagLaws.{tag_broken, tag_causes, tag_unsaid}
 use Rattle.desk_commands.specs.Desk.{lines_to}
-use Rattle.desk_commands.specs.Lending.{client_tag}
+use Rattle.desk_commands.specs.Doing.{client_tag}
 use Rattle.desk_commands.specs.Doing.{ended}
 use Rattle.command_runs.specs.Tagged.{tagged}
 

@@ -1,6 +1,7 @@
 -- Commands of a client that no other client sees in the trees that it watches.
 use Rattle.std.proofs.Common.{◌≡◌, ◌≤◌, ◌-◌, ℕ, zero, suc, Bool, true, false, cond, List, [], ◌∷◌, ◌++◌, Option, Some, None, Ok, length, replicate, unwrap_or, option_map, refl, ap, ◌∙◌, arith}
-use Rattle.base_core.specs.Base.{Held}
+use Rattle.base_core.specs.Base.{Base, Held}
+use Rattle.filter_seat.specs.Following.{Moving, filter_after}
 use Rattle.filter_seat.specs.Seats.{Seat, first_seat}
 use Rattle.index_commands.specs.Indexing.{is_too_big}
 use Rattle.script_text.specs.Tasks.{Order, task}
@@ -9,10 +10,11 @@ use Rattle.shell_commands.proofs.MarkLaws.{CountAlike, marks_alike}
 use Rattle.shell_commands.proofs.RefusedLaws.{imported, made}
 use Rattle.shell_commands.specs.Tasks.{tasks}
 use Rattle.shell_state.specs.Meeting.{hit_if_in, listed_hit, tree_hits}
-use Rattle.shell_state.specs.State.{Shared, State, with_index}
+use Rattle.shell_state.specs.State.{State, with_index}
 use Rattle.sig_index.specs.declared.pos_query.PosQuery.{PosQuery}
 use Rattle.tree_rows.specs.declared.hit.GameHit.{GameHit}
 use Rattle.view_commands.specs.declared.window.Window.{Window}
+use Rattle.desk_commands.proofs.BringLaws.{some_added}
 use Rattle.desk_commands.specs.Desk.{brought}
 use Rattle.desk_commands.specs.Kinds.{is_seen, order_kind}
 use Rattle.desk_commands.specs.declared.kinds.Kind.TheVariants.{Public, Adds, Moves}
@@ -58,23 +60,20 @@ abbrev plies_of : Option Seat → List (Option ℕ)
 plies_of seat = (unwrap_or seat (first_seat 0)).filter
 
 -- What such a command brings to another seat, behind games that come after those that are there.
-brought_out : (query : PosQuery) (order : Order) (body : List ℕ) (before after : Shared) (seat : Option Seat) (more : List Held) → order_kind order ≡ Adds → after.base.games ≡ before.base.games ++ more
-    → length (plies_of seat) ≤ length before.base.games → tree_hits query (plies_of (option_map (brought order body before after) seat)) after.base.games ≡ tree_hits query (plies_of seat) before.base.games
-brought_out query order body before after None more is games fit = refl
-brought_out query (Ok (Import word)) body before after (Some seat) more is games fit =
-    let n = length after.base.games - length before.base.games in
-    ap (tree_hits query (seat.filter ++ replicate n None)) games ∙ hits_out query seat.filter before.base.games more n fit
-brought_out query (Ok (Demo seed number)) body before after (Some seat) more is games fit =
-    let n = length after.base.games - length before.base.games in
-    ap (tree_hits query (seat.filter ++ replicate n None)) games ∙ hits_out query seat.filter before.base.games more n fit
-brought_out query _ body before after (Some seat) more is games fit = absurd cc
+brought_out : (query : PosQuery) (order : Order) (before after : Base) (seat : Option Seat) (more : List Held) → order_kind order ≡ Adds → after.games ≡ before.games ++ more
+    → length (plies_of seat) ≤ length before.games → tree_hits query (plies_of (option_map (brought order before after) seat)) after.games ≡ tree_hits query (plies_of seat) before.games
+brought_out query order before after None more is games fit = refl
+brought_out query order before after (Some seat) more is games fit =
+    let n = length after.games - length seat.filter in
+    ap (λ (m : Moving). tree_hits query (filter_after None m seat.filter) after.games) (some_added order before after is)
+    ∙ ap (tree_hits query (seat.filter ++ replicate n None)) games ∙ hits_out query seat.filter before.games more n fit
 
 pub adds_out : (w : Window) (query : PosQuery) (order : Order) (body : List ℕ) (s : State) (seat : Option Seat) → order_kind order ≡ Adds → length (plies_of seat) ≤ length s.shared.base.games
-    → tree_hits query (plies_of (option_map (brought order body s.shared ((tasks w).after s (task order body)).shared) seat)) ((tasks w).after s (task order body)).shared.base.games ≡ tree_hits query (plies_of seat) s.shared.base.games
+    → tree_hits query (plies_of (option_map (brought order s.shared.base ((tasks w).after s (task order body)).shared.base) seat)) ((tasks w).after s (task order body)).shared.base.games ≡ tree_hits query (plies_of seat) s.shared.base.games
 adds_out w query (Ok (Import word)) body s seat is fit =
     let l = imported w s word body in
-    brought_out query (Ok (Import word)) body s.shared ((tasks w).after s (task (Ok (Import word)) body)).shared seat l.0 refl l.1 fit
+    brought_out query (Ok (Import word)) s.shared.base ((tasks w).after s (task (Ok (Import word)) body)).shared.base seat l.0 refl l.1 fit
 adds_out w query (Ok (Demo seed games)) body s seat is fit =
     let l = made w s seed games body in
-    brought_out query (Ok (Demo seed games)) body s.shared ((tasks w).after s (task (Ok (Demo seed games)) body)).shared seat l.0 refl l.1 fit
+    brought_out query (Ok (Demo seed games)) s.shared.base ((tasks w).after s (task (Ok (Demo seed games)) body)).shared.base seat l.0 refl l.1 fit
 adds_out w query _ body s seat is fit = absurd cc

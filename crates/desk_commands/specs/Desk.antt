@@ -1,13 +1,13 @@
 -- Clients over the plain machine: each has its own seat and slots, and they share the base. This project's own.
 use Rattle.std.specs.Fmt.{decimal}
 use Rattle.std.specs.Option.{option_map_or}
-use Rattle.std.specs.Prelude.{ℕ, zero, suc, ◌+◌, ◌-◌, if◌then◌else◌, Bool, true, List, [], ◌∷◌, ◌++◌, Option, Some, None, Ok, codes, length, map, replicate, slice_get, unwrap_or}
+use Rattle.std.specs.Prelude.{ℕ, zero, suc, ◌+◌, nat_lt, if◌then◌else◌, Bool, true, List, [], ◌∷◌, ◌++◌, Option, Some, None, Ok, codes, length, map, replicate, slice_get, unwrap_or}
 use Rattle.base_core.specs.Base.{Base}
 use Rattle.command_runs.specs.Plain.{Plain}
-use Rattle.edit_commands.specs.Compacting.{compact_work}
+use Rattle.base_core.specs.Compacted.{compacted}
+use Rattle.edit_commands.specs.Compacting.{numbers_of}
+use Rattle.filter_seat.specs.Following.{Moving, seat_after}
 use Rattle.filter_seat.specs.Seats.{Seat, first_seat}
-use Rattle.filter_seat.specs.declared.saved.SavedFilter.{SavedFilter}
-use Rattle.intake_commands.specs.Importing.{replace_work}
 use Rattle.script_lines.specs.Clients.{Clients, Tagged, has_ended, heard, new_clients, said}
 use Rattle.script_text.specs.Tasks.{Order, Task}
 use Rattle.script_text.specs.declared.command.Command.TheVariants.{Nothing, Import, Replace, Demo, Compact}
@@ -28,12 +28,9 @@ pub record Desk : Type 0 where
 
 -- The desk in which a script begins over a base that was opened or created.
 abbrev pub desk_begin : Bool → Bool → List Slot → Base → Desk
-desk_begin tagged created slots base = record {
-  shared = (begin created slots base).shared;
-  seats = replicate (if tagged then 4 else 1) (first_seat (length base.games));
-  slots = slots;
-  clients = new_clients tagged;
-}
+desk_begin tagged created slots base =
+    let seats : List Seat = replicate (if tagged then 4 else 1) (first_seat (length base.games)) in
+    record { shared = (begin created slots base).shared; seats = seats; slots = slots; clients = new_clients tagged }
 
 -- ---- what one client sees
 
@@ -51,21 +48,20 @@ own_tasks desk client = tasks (window_of desk.clients client)
 
 -- ---- what it brings to the others
 
--- Each filter of a seat with these entries behind its own.
-abbrev pub extended : List (Option ℕ) → Seat → Seat
-extended more seat =
-    record { filter = seat.filter ++ more; saved = map (λ (kept : SavedFilter). record kept { plies = kept.plies ++ more }) seat.saved }
+-- What a line moves in the filters over the games, these being the bases before and after it. A game was replaced if its new record has come into
+-- the games file, which then ends later. A compaction that was refused, or takes no game out, moves nothing.
+abbrev pub moved_by : Order → Base → Base → Moving
+moved_by (Ok (Import word)) before after = Moving.added (length after.games)
+moved_by (Ok (Demo seed games)) before after = Moving.added (length after.games)
+moved_by (Ok (Replace game word)) before after = if nat_lt before.end after.end then Moving.started game else Moving.nothing
+moved_by (Ok Compact) before after =
+    if nat_lt (length after.games) (length before.games) then Moving.numbered (record { to = numbers_of before; kept = length (compacted before).games })
+    else Moving.nothing
+moved_by _ before after = Moving.nothing
 
--- What a command brings to the seat of another client; these are what is shared before and after it. The games that it
--- adds are out of the other client's filters. What it moves, it moves there as if the other client had said it. Every
--- other command leaves that seat as it is.
-abbrev pub brought : Order → List ℕ → Shared → Shared → Seat → Seat
-brought (Ok (Import word)) body before after seat = extended (replicate (length after.base.games - length before.base.games) None) seat
-brought (Ok (Demo seed games)) body before after seat = extended (replicate (length after.base.games - length before.base.games) None) seat
-brought (Ok (Replace game word)) body before after seat =
-    ((replace_work game body).after (record { shared = before; seat = seat; slots = [] })).seat
-brought (Ok Compact) body before after seat = (compact_work.after (record { shared = before; seat = seat; slots = [] })).seat
-brought _ body before after seat = seat
+-- What it brings to the seat of another client: the filters there follow what it moves.
+abbrev pub brought : Order → Base → Base → Seat → Seat
+brought order before after = seat_after (moved_by order before after)
 
 -- The seats where that of one client has become this one, and those of the others follow.
 abbrev pub each_seat : ℕ → Seat → (Seat → Seat) → List Seat → List Seat
@@ -76,11 +72,9 @@ each_seat (suc client) own bring (seat ∷ seats) = bring seat ∷ each_seat cli
 -- The command is what it is to its client, on what is shared, the client's seat and the slots. It is brought to the
 -- seats of the others.
 abbrev pub desk_with : Desk → ℕ → Task → State → Desk
-desk_with desk client task s = record desk {
-  shared = s.shared;
-  seats = each_seat client s.seat (brought task.order task.body desk.shared s.shared) desk.seats;
-  slots = s.slots;
-}
+desk_with desk client task s =
+    let bring : Seat → Seat = brought task.order desk.shared.base s.shared.base in
+    record desk { shared = s.shared; seats = each_seat client s.seat bring desk.seats; slots = s.slots }
 
 -- ---- a line of a script
 
@@ -113,8 +107,7 @@ lines_to clients client text = if clients.tagged then tagged_lines true (codes "
 
 abbrev pub desk_text : Desk → Tagged → List ℕ
 desk_text desk t =
-    option_map_or (λ client. lines_to desk.clients client (desk_said desk client t.task)) t.client
-    (unless_nothing (codes "no client") t.task.order)
+    option_map_or (λ client. lines_to desk.clients client (desk_said desk client t.task)) t.client (unless_nothing (codes "no client") t.task.order)
 
 -- The plain machine of a desk.
 abbrev pub desks : Plain Desk Tagged

@@ -1,9 +1,13 @@
 -- What a line does before the clients hear it. Only private functions cite this.
-use Rattle.std.specs.Prelude.{ℕ, ◌+◌, if◌then◌else◌, length, Result, Ok, Err}
+use Rattle.std.specs.Fmt.{decimal}
+use Rattle.std.specs.Prelude.{◌≡◌, ℕ, ◌+◌, ◌++◌, if◌then◌else◌, codes, length, List, Result, Ok, Err, Some}
+use Rattle.base_core.specs.Represents.{Kept}
 use Rattle.base_files.specs.declared.faults.Stop.{Stop}
 use Rattle.command_runs.specs.Plain.{Plain}
+use Rattle.compact_base.specs.Compacting.{numbering}
 use Rattle.script_lines.specs.Clients.{Tagged}
-use Rattle.script_text.specs.Tasks.{Task}
+use Rattle.script_text.specs.Tasks.{Order, Task}
+use Rattle.script_text.specs.declared.command.Command.TheVariants.{Compact}
 use Rattle.shell_commands.specs.Watching.{watches}
 use Rattle.shell_state.specs.Slots.{slot_at}
 use Rattle.shell_state.specs.declared.halt.Halt.{Halt}
@@ -11,6 +15,7 @@ use Rattle.shell_state.specs.declared.halt.Halt.TheVariants as halt
 use Rattle.view_commands.specs.Views.{changes_of, slot_hits}
 use Rattle.desk_commands.specs.Desk.{Desk, desk_by, desk_done, desk_text, seen_by, window_of}
 use Rattle.desk_commands.specs.Views.{owner}
+use Rattle.desk_commands.specs.declared.moving.Before.{Before}
 
 -- The plain machine of a desk whose clients do not hear.
 abbrev pub doings : Plain Desk Tagged
@@ -28,3 +33,13 @@ abbrev pub ended : {A : Type 0} → Result A Halt → Result A Stop → Result A
 ended (Err e) flushed = Err e
 ended (Ok done) (Err stop) = Err (halt.Device stop)
 ended (Ok done) (Ok flushed) = Ok flushed
+
+-- The tag of a client.
+abbrev pub client_tag : ℕ → List ℕ
+client_tag client = codes "@" ++ decimal client ++ codes " "
+
+-- What was noted of the games of a base before a line.
+pub record IsNoted (kept : Kept) (order : Order) (noted : Before) : Type 0 where
+  pub games : noted.games ≡ length kept.entries
+  pub ends : noted.end ≡ kept.end
+  pub numbers : order ≡ Ok Compact → noted.numbering ≡ Some (numbering kept.entries)

@@ -2,6 +2,5 @@ pub mod Kinds
 pub mod Desk
 pub mod Standing
 pub mod Views
-pub mod Lending
 pub mod Showing
 pub mod Doing

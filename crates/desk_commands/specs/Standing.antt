@@ -52,8 +52,7 @@ effective clients client order = option_map_or (λ client. if has_ended clients 
 
 -- What it asks at most of the games file: nothing, if no client says it.
 abbrev pub line_price : Desk → Line → ℕ
-line_price desk line =
-    price (seen_by desk (unwrap_or line.client 0)) (order_work all_slots (effective desk.clients line.client line.order) [])
+line_price desk line = price (seen_by desk (unwrap_or line.client 0)) (order_work all_slots (effective desk.clients line.client line.order) [])
 
 -- The base that it leaves in the place of the files, if it does.
 abbrev pub line_left : Desk → Line → Option (Base → Base)

@@ -4,6 +4,7 @@
 
 mod desk;
 mod kinds;
+mod moving;
 mod saying;
 mod seats;
 mod serving;

@@ -6,7 +6,7 @@ ghost use Rattle.command_runs.specs.Endings.{Halted, NoneLost};
 ghost use Rattle.shell_state.specs.Ends.{IsOutput};
 ghost use Rattle.shell_state.specs.Stands.{WhyHalt};
 ghost use Rattle.desk_commands.specs.Desk.{lines_to, unless_nothing};
-ghost use Rattle.desk_commands.specs.Lending.{client_tag};
+ghost use Rattle.desk_commands.specs.Doing.{client_tag};
 
 use base_files::{Sink, Stop};
 use command_runs::{TagPage, write_tagged, write_text};

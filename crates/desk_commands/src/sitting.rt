@@ -21,9 +21,9 @@ ghost use Rattle.desk_commands.specs.Standing.{DeskSound, DeskStands};
 ghost use Rattle.desk_commands.specs.Views.{AllRight};
 
 use crate::desk::Desk;
-use crate::kinds::order_kind;
+use crate::moving::Before;
 use crate::saying::client_tag;
-use crate::seats::{bring, change_seats, gather};
+use crate::seats::{bring, change_seats};
 use base_files::{Files, Sink, Source, Stop};
 use command_runs::{Opens, TagPage, TaggedSink, Way};
 use script_lines::{Clients, Order};
@@ -88,12 +88,11 @@ pub(crate) fn serve_seated<F: Files, B: Source, K: Sink>(
     ensures causes { Causes WhyHalt result (counts (F.faults files.old) (B.faults body.old) (K.faults out.old)) (counts (F.faults files.new) (B.faults body.new) (K.faults out.new)) }
     ensures clients { desk.new.clients ≡ desk.old.clients }
 {
-    let kind = order_kind(order);
     let place = client as usize;
+    let before = Before::of(alloc, &desk.machine, order)?;
     let seats = desk.seats.as_mut_slice();
     let machine = &mut desk.machine;
     change_seats(machine, &mut seats[place]);
-    gather(alloc, machine, seats, place, kind)?;
     serve_client(
         alloc,
         machine,
@@ -106,7 +105,7 @@ pub(crate) fn serve_seated<F: Files, B: Source, K: Sink>(
         client,
         order,
     )?;
-    bring(alloc, machine, seats, place, kind)?;
+    bring(alloc, machine, seats, place, &before, order)?;
     change_seats(machine, &mut seats[place]);
     Ok(())
 }

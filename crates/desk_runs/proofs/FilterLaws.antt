@@ -1,28 +1,43 @@
 -- Laws of the filters of the clients at a desk.
-use Rattle.std.proofs.Common.{◌≡◌, ◌≤◌, ℕ, zero, suc, ◌+◌, ◌-◌, Bool, true, false, [], ◌∷◌, ◌++◌, List, All, Option, Some, None, Ok, Err, length, map, replicate, slice_get, unwrap_or, get_or, refl, sym, ap, ◌∙◌, subst, arith, inl, inr}
-use Rattle.std.specs.Prelude.{IfSome, if◌then◌else◌}
-use Rattle.std.proofs.lemmas.List.{length-append, length-map, length-replicate}
+use Rattle.std.proofs.Common.{◌≡◌, ◌≤◌, ℕ, zero, suc, Bool, true, false, [], ◌∷◌, List, Option, Some, None, Result, Ok, Err, length, map, replicate, slice_get, unwrap_or, get_or, refl, sym, ap, ◌∙◌, subst, arith, inl, inr}
+use Rattle.std.specs.Prelude.{IfSome, if◌then◌else◌, nat_lt}
+use Rattle.std.proofs.lemmas.Bool.{ltb-false, ltb-true}
+use Rattle.std.proofs.lemmas.List.{length-map, length-replicate}
 use Rattle.std.proofs.lemmas.List.Elements.{All-map, All-nil}
-use Rattle.base_core.specs.Base.{Base}
+use Rattle.base_core.proofs.MarkLaws.{changed-length}
+use Rattle.base_core.specs.Base.{Base, Held}
+use Rattle.base_core.specs.Compacted.{compacted}
+use Rattle.base_core.specs.Edits.{game_replaced, held_of}
 use Rattle.command_runs.specs.Plain.{after_all}
+use Rattle.edit_commands.proofs.CompactLaws.{length_moved}
+use Rattle.edit_commands.specs.Compacting.{compacted_state, is_within, numbers_of}
+use Rattle.filter_seat.proofs.FollowLaws.{longer}
+use Rattle.filter_seat.proofs.SavedLaws.{length_to_start}
+use Rattle.filter_seat.specs.Following.{Moving, filter_after}
+use Rattle.filter_seat.specs.SavedFilters.{kept_with}
 use Rattle.filter_seat.specs.Seats.{Seat, first_seat}
 use Rattle.filter_seat.specs.declared.saved.SavedFilter.{SavedFilter}
+use Rattle.game_filter.proofs.Renumberings.{length-renumbered-le}
+use Rattle.game_filter.specs.Renumbering.{Numbering}
+use Rattle.game_tree.specs.Game.{GameTree}
+use Rattle.game_tree.specs.declared.head.Head.{Head}
+use Rattle.intake_commands.specs.Importing.{state_with, the_new}
 use Rattle.script_lines.specs.Clients.{Tagged, has_ended}
-use Rattle.script_text.specs.Tasks.{Order, Task, task}
+use Rattle.script_text.specs.Tasks.{Order, Task}
 use Rattle.script_text.specs.declared.command.Command.TheVariants.{Compact, Replace}
 use Rattle.shell_commands.proofs.FitLaws.{task_has}
 use Rattle.shell_commands.specs.Tasks.{order_work}
 use Rattle.shell_state.specs.Slots.{Slot}
 use Rattle.shell_state.specs.State.{HasFilters, Shared, State}
-use Rattle.view_commands.specs.Views.{all_slots}
 use Rattle.view_commands.specs.declared.window.Window.{Window}
+use Rattle.desk_commands.proofs.BringLaws.{none_moved, some_added}
 use Rattle.desk_commands.proofs.KindLaws.{more_games, same_games}
-use Rattle.desk_commands.proofs.LendLaws.{brought_by_kind, brought_is}
-use Rattle.desk_commands.proofs.SharedLaws.{Own, same-shared, state_of}
-use Rattle.desk_commands.specs.Desk.{Desk, brought, desk_begin, desk_by, desk_done, desks, each_seat, extended, own_tasks, seen_by, window_of}
+use Rattle.desk_commands.proofs.SharedLaws.{Own, state_of}
+use Rattle.desk_commands.specs.Desk.{Desk, brought, desk_begin, desk_by, desk_done, desks, each_seat, moved_by, own_tasks, seen_by, window_of}
 use Rattle.desk_commands.specs.Kinds.{order_kind}
 use Rattle.desk_commands.specs.declared.kinds.Kind.{Kind}
-use Rattle.desk_commands.specs.declared.kinds.Kind.TheVariants.{Adds, Moves, Private, Public}
+use Rattle.desk_commands.specs.declared.kinds.Kind.TheVariants.{Adds, Private, Public}
+use Rattle.desk_commands.specs.declared.kinds.Kind.TheVariants as kinds
 use Rattle.desk_runs.specs.Filters.{AllFit, state_of_seat}
 
 -- ---- the seats of a list
@@ -45,66 +60,69 @@ in_each (suc client) own bring Before After (seat ∷ seats) his step has (suc i
 
 -- ---- what is brought to a seat
 
--- The same seat beside as many games.
-beside : (before after : Shared) (seat : Seat) → length after.base.games ≡ length before.base.games → HasFilters (state_of_seat before seat) → HasFilters (state_of_seat after seat)
-beside before after seat same has = record {
-  fit = record {
-    filter = has.fit.filter ∙ sym same;
-    saved = subst (λ (n : ℕ). All (λ (f : SavedFilter). length f.plies ≡ n) seat.saved) (sym same) has.fit.saved;
-  };
-  few = has.few;
-}
-
-longer : (plies : List (Option ℕ)) (games more later : ℕ) → length plies ≡ games → games + more ≡ later → length (plies ++ replicate more None) ≡ later
-longer plies games more later long sum =
-    let none : Option ℕ = None in
-    omega (arith, long, sum, length-append plies (replicate more none), length-replicate more none)
-
--- With games behind those that were there, which are out.
-with_more : (before after : Shared) (seat : Seat) → length before.base.games ≤ length after.base.games → HasFilters (state_of_seat before seat)
-    → HasFilters (state_of_seat after (extended (replicate (length after.base.games - length before.base.games) None) seat))
-with_more before after seat more has =
-    let old : ℕ = length before.base.games in
-    let new : ℕ = length after.base.games in
-    let sum : old + (new - old) ≡ new = omega (arith, more) in
-    let extend : SavedFilter → SavedFilter = λ kept. record kept { plies = kept.plies ++ replicate (new - old) None } in
-    record {
-      fit = record {
-        filter = longer seat.filter old (new - old) new has.fit.filter sum;
-        saved =
-            All-map (λ (f : SavedFilter). length f.plies ≡ new) extend seat.saved
-            (λ k d within. longer (get_or seat.saved k d).plies old (new - old) new (has.fit.saved k d within) sum);
-      };
-      few = omega (arith, has.few, length-map seat.saved extend);
-    }
-
 -- What a command makes of what is shared and of what its client has.
 abbrev after_by : Window → Order → List ℕ → Shared → Own → State
 after_by w order body h own = (order_work w order body).after (state_of h own)
 
--- One that moves the entries of each seat does so alike, whoever says it.
-any_window : (w : Window) (order : Order) (body : List ℕ) (s : State) → order_kind order ≡ Moves → (order_work w order body).after s ≡ (order_work all_slots order body).after s
-any_window w (Ok (Replace game word)) body s is = refl
-any_window w (Ok Compact) body s is = refl
-any_window w _ body s is = absurd cc
+-- A filter moves to one that has an entry for each game that there is then.
+abbrev Moves : Moving → ℕ → ℕ → Type 0
+Moves moving old new = (plies : List (Option ℕ)) → length plies ≡ old → length (filter_after None moving plies) ≡ new
 
-moved : (w : Window) (order : Order) (body : List ℕ) (h : Shared) (own : Own) (seat : Seat) → order_kind order ≡ Moves → HasFilters (state_of_seat h seat)
-    → HasFilters (state_of_seat (after_by w order body h own).shared ((order_work all_slots order body).after (state_of_seat h seat)).seat)
-moved w order body h own seat is has =
-    let mine : Own = record { seat = seat; slots = [] } in
-    let kept = task_has all_slots (state_of_seat h seat) (task order body) has in
-    let shared : (after_by w order body h own).shared ≡ (after_by all_slots order body h mine).shared =
-    ap (λ (s : State). s.shared) (any_window w order body (state_of h own) is) ∙ same-shared all_slots order body h own mine in
-    beside (after_by all_slots order body h mine).shared (after_by w order body h own).shared (after_by all_slots order body h mine).seat
-    (ap (λ (x : Shared). length x.base.games) shared)
-    (record { fit = record { filter = kept.fit.filter; saved = kept.fit.saved }; few = kept.few })
+moves_none : (moving : Moving) (old new : ℕ) → moving ≡ Moving.nothing → new ≡ old → Moves moving old new
+moves_none moving old new is same = λ plies long. ap (λ (m : Moving). length (filter_after None m plies)) is ∙ (long ∙ sym same)
 
-brings : (kind : Kind) (w : Window) (order : Order) (body : List ℕ) (h : Shared) (own : Own) (seat : Seat) → order_kind order ≡ kind → HasFilters (state_of_seat h seat)
-    → HasFilters (state_of_seat (after_by w order body h own).shared (brought_by_kind kind (task order body) h (after_by w order body h own).shared seat))
-brings Private w order body h own seat is has = beside h (after_by w order body h own).shared seat (same_games w order body h own (inl is)) has
-brings Public w order body h own seat is has = beside h (after_by w order body h own).shared seat (same_games w order body h own (inr is)) has
-brings Adds w order body h own seat is has = with_more h (after_by w order body h own).shared seat (more_games w order body h own is) has
-brings Moves w order body h own seat is has = moved w order body h own seat is has
+moves_more : (moving : Moving) (old new : ℕ) → moving ≡ Moving.added new → old ≤ new → Moves moving old new
+moves_more moving old new is more = λ plies long. ap (λ (m : Moving). length (filter_after None m plies)) is ∙ longer None new plies (omega (arith, long, more))
+
+moves_start : (grows : Bool) (game old : ℕ) → Moves (if grows then Moving.started game else Moving.nothing) old old
+moves_start true game old = λ plies long. length_to_start game plies ∙ long
+moves_start false game old = λ plies long. long
+
+replaced_games : (s : State) (game : ℕ) (new : Result (Head × GameTree) (List ℕ)) → length (state_with s game new).shared.base.games ≡ length s.shared.base.games
+unfolding game_replaced
+replaced_games s game (Ok new) = changed-length (λ (_ : Held). held_of new.0 new.1) game s.shared.base.games
+replaced_games s game (Err line) = refl
+
+abbrev numbers : Base → Numbering
+numbers base = record { to = numbers_of base; kept = length (compacted base).games }
+
+-- By whether the base was compacted, and has fewer games then.
+moves_left : (s : State) (within fewer : Bool) → nat_lt (length (if within then compacted_state s else s).shared.base.games) (length s.shared.base.games) ≡ fewer
+    → Moves (if fewer then Moving.numbered (numbers s.shared.base) else Moving.nothing) (length s.shared.base.games) (length (if within then compacted_state s else s).shared.base.games)
+moves_left s true true is = λ plies long. length_moved s.shared.base plies long
+moves_left s true false is = λ plies long.
+    omega (arith, long, ltb-false (length (compacted s.shared.base).games) (length s.shared.base.games) is, length_moved s.shared.base plies long, length-renumbered-le (numbers_of s.shared.base) plies)
+moves_left s false true is = absurd (omega (arith, ltb-true (length s.shared.base.games) (length s.shared.base.games) is))
+moves_left s false false is = λ plies long. long
+
+-- Whatever a command does.
+line_moves : (kind : Kind) (w : Window) (order : Order) (body : List ℕ) (h : Shared) (own : Own) → order_kind order ≡ kind
+    → Moves (moved_by order h.base (after_by w order body h own).shared.base) (length h.base.games) (length (after_by w order body h own).shared.base.games)
+line_moves Private w order body h own is = moves_none _ _ _ (none_moved order h.base (after_by w order body h own).shared.base (inl is)) (same_games w order body h own (inl is))
+line_moves Public w order body h own is = moves_none _ _ _ (none_moved order h.base (after_by w order body h own).shared.base (inr is)) (same_games w order body h own (inr is))
+line_moves Adds w order body h own is = moves_more _ _ _ (some_added order h.base (after_by w order body h own).shared.base is) (more_games w order body h own is)
+line_moves kinds.Moves w (Ok (Replace game word)) body h own is =
+    let same = replaced_games (state_of h own) game (the_new (state_of h own) game body) in
+    subst (λ (n : ℕ). Moves (moved_by (Ok (Replace game word)) h.base (after_by w (Ok (Replace game word)) body h own).shared.base) (length h.base.games) n) (sym same)
+    (moves_start (nat_lt h.base.end (after_by w (Ok (Replace game word)) body h own).shared.base.end) game (length h.base.games))
+line_moves kinds.Moves w (Ok Compact) body h own is = moves_left (state_of h own) (is_within h.base) _ refl
+line_moves kinds.Moves w _ body h own is = absurd cc
+
+brings : (w : Window) (order : Order) (body : List ℕ) (h : Shared) (own : Own) (seat : Seat) → HasFilters (state_of_seat h seat)
+    → HasFilters (state_of_seat (after_by w order body h own).shared (brought order h.base (after_by w order body h own).shared.base seat))
+brings w order body h own seat has =
+    let later : Shared = (after_by w order body h own).shared in
+    let change : List (Option ℕ) → List (Option ℕ) = filter_after None (moved_by order h.base later.base) in
+    let moves = line_moves (order_kind order) w order body h own refl in
+    record {
+      fit = record {
+        filter = moves seat.filter has.fit.filter;
+        saved =
+            All-map (λ (f : SavedFilter). length f.plies ≡ length later.base.games) (kept_with change) seat.saved
+            (λ k d within. moves (get_or seat.saved k d).plies (has.fit.saved k d within));
+      };
+      few = omega (arith, has.few, length-map seat.saved (kept_with change));
+    }
 
 -- ---- a line
 
@@ -122,9 +140,9 @@ said_fits : (desk : Desk) (client : ℕ) (task : Task) → AllFit desk → AllFi
 said_fits desk client task has =
     let later : State = (own_tasks desk client).after (seen_by desk client) task in
     let own : Own = record { seat = (seen_by desk client).seat; slots = desk.slots } in
-    in_each client later.seat (brought task.order task.body desk.shared later.shared) (λ (seat : Seat). HasFilters (state_of_seat desk.shared seat)) (λ (seat : Seat). HasFilters (state_of_seat later.shared seat)) desk.seats
+    in_each client later.seat (brought task.order desk.shared.base later.shared.base) (λ (seat : Seat). HasFilters (state_of_seat desk.shared seat)) (λ (seat : Seat). HasFilters (state_of_seat later.shared seat)) desk.seats
     (his_own desk client task (slice_get desk.seats client) refl (has client))
-    (λ seat fits. subst (λ (x : Seat). HasFilters (state_of_seat later.shared x)) (sym (brought_is task.order task.body desk.shared later.shared seat)) (brings (order_kind task.order) (window_of desk.clients client) task.order task.body desk.shared own seat refl fits))
+    (λ seat fits. brings (window_of desk.clients client) task.order task.body desk.shared own seat fits)
     has
 
 either_fits : (test : Bool) (x y : Desk) → AllFit x → AllFit y → AllFit (if test then x else y)

@@ -1,6 +1,7 @@
 -- Two desks at which one client can see no difference.
-use Rattle.std.proofs.Common.{◌≡◌, ℕ, zero, suc, ◌+◌, ◌==◌, nat_le, nat_lt, Bool, true, false, cond, List, [], ◌∷◌, Option, Some, None, Ok, Err, codes, unwrap_or, option_map, map, slice_get, refl, sym, ap, subst, ◌∙◌, arith}
+use Rattle.std.proofs.Common.{◌≡◌, ℕ, zero, suc, ◌+◌, ◌==◌, nat_le, nat_lt, Bool, true, false, cond, List, [], ◌∷◌, Option, Some, None, Ok, Err, codes, unwrap_or, option_map, map, slice_get, refl, sym, ap, subst, ◌∙◌, arith, inl}
 use Rattle.std.proofs.lemmas.Bool.{eqb-true, eqb-false, leb-true, ltb-true}
+use Rattle.base_core.specs.Base.{Base}
 use Rattle.filter_seat.specs.Seats.{Seat, first_seat}
 use Rattle.script_lines.proofs.ClientLaws.{none_ends}
 use Rattle.script_lines.specs.Clients.{Clients, Tagged, has_ended, heard, is_quit, said as said_by}
@@ -12,10 +13,10 @@ use Rattle.shell_state.specs.State.{Shared, State}
 use Rattle.command_runs.specs.Tagged.{tagged}
 use Rattle.view_commands.specs.Views.{all_slots, is_own}
 use Rattle.view_commands.specs.declared.window.Window.{Window}
-use Rattle.desk_commands.proofs.LendLaws.{brought_by_kind, brought_is}
+use Rattle.desk_commands.proofs.BringLaws.{none_brought}
 use Rattle.desk_commands.proofs.SharedLaws.{Own, private-keeps, same-shared, state_of}
 use Rattle.desk_commands.specs.Desk.{Desk, brought, desk_after, desk_by, desk_done, desk_said, desk_text, each_seat, own_tasks, seen_by, unless_nothing, window_of}
-use Rattle.desk_commands.specs.Lending.{client_tag}
+use Rattle.desk_commands.specs.Doing.{client_tag}
 use Rattle.desk_commands.specs.Kinds.{is_private, order_kind}
 use Rattle.desk_commands.specs.declared.kinds.Kind.{Kind}
 use Rattle.desk_commands.specs.declared.kinds.Kind.TheVariants.{Private}
@@ -133,7 +134,7 @@ alike-own c task d e alike = record {
     same = same-made c task d e alike
 
     bring : Desk → Seat → Seat
-    bring x = brought task.order task.body x.shared (made_by x c task).shared
+    bring x = brought task.order x.shared.base (made_by x c task).shared.base
 
 alike-done : (c : ℕ) (task : Task) (d e : Desk) → Alike c d e → Alike c (desk_done d (Some c) task) (desk_done e (Some c) task)
 alike-done c task d e alike =
@@ -178,13 +179,13 @@ alike-other c by task d e differ alike = record {
         ∙ ap (λ (clients : Clients). ((tasks (window_of clients by)).after (seen_by e by) task).shared) alike.clients
 
     bring : Desk → Seat → Seat
-    bring x = brought task.order task.body x.shared (made_by x by task).shared
+    bring x = brought task.order x.shared.base (made_by x by task).shared.base
 
     seats : slice_get (each_seat by (made_by d by task).seat (bring d) d.seats) c ≡ slice_get (each_seat by (made_by e by task).seat (bring e) e.seats) c
     seats =
         other-seat c by (made_by d by task).seat (bring d) d.seats differ
-        ∙ ap (λ (h : Shared). option_map (brought task.order task.body h (made_by d by task).shared) (slice_get d.seats c)) alike.shared
-        ∙ ap (λ (h : Shared). option_map (brought task.order task.body e.shared h) (slice_get d.seats c)) shared
+        ∙ ap (λ (h : Shared). option_map (brought task.order h.base (made_by d by task).shared.base) (slice_get d.seats c)) alike.shared
+        ∙ ap (λ (h : Shared). option_map (brought task.order e.shared.base h.base) (slice_get d.seats c)) shared
         ∙ ap (λ (o : Option Seat). option_map (bring e) o) alike.seat
         ∙ sym (other-seat c by (made_by e by task).seat (bring e) e.seats differ)
 
@@ -194,21 +195,20 @@ alike-said c by task d e differ alike =
     (alike-other c by task d e differ alike)
 
 -- A private line of another client.
-brings-private : (kind : Kind) (task : Task) (before after : Shared) (seat : Seat) → is_private kind ≡ true → brought_by_kind kind task before after seat ≡ seat
-brings-private Private task before after seat e = refl
-brings-private _ task before after seat e = absurd cc
+private-is : (kind : Kind) → is_private kind ≡ true → kind ≡ Private
+private-is Private e = refl
+private-is _ e = absurd cc
 
-brings-nothing : (order : Order) (body : List ℕ) (before after : Shared) (o : Option Seat) → is_private (order_kind order) ≡ true → option_map (brought order body before after) o ≡ o
-brings-nothing order body before after None e = refl
-brings-nothing order body before after (Some seat) e =
-    ap (λ (x : Seat). Some x) (brought_is order body before after seat ∙ brings-private (order_kind order) (task order body) before after seat e)
+brings-nothing : (order : Order) (before after : Base) (o : Option Seat) → is_private (order_kind order) ≡ true → option_map (brought order before after) o ≡ o
+brings-nothing order before after None e = refl
+brings-nothing order before after (Some seat) e = ap (λ (x : Seat). Some x) (none_brought order before after seat (inl (private-is (order_kind order) e)))
 
 alike-private : (c by : ℕ) (task : Task) (d e : Desk) → (by ≡ c → ⊥) → is_private (order_kind task.order) ≡ true → Alike c d e → Alike c (desk_by d by task) e
 alike-private c by task d e differ is alike = record {
   shared = private-keeps (window_of d.clients by) task.order task.body d.shared (own_of d by) is ∙ alike.shared;
   seat =
-      other-seat c by (made_by d by task).seat (brought task.order task.body d.shared (made_by d by task).shared) d.seats differ
-      ∙ brings-nothing task.order task.body d.shared (made_by d by task).shared (slice_get d.seats c) is ∙ alike.seat;
+      other-seat c by (made_by d by task).seat (brought task.order d.shared.base (made_by d by task).shared.base) d.seats differ
+      ∙ brings-nothing task.order d.shared.base (made_by d by task).shared.base (slice_get d.seats c) is ∙ alike.seat;
   slots = λ i own. slots-stay c by i task d differ alike.tagged own ∙ alike.slots i own;
   clients = alike.clients;
   tagged = alike.tagged;

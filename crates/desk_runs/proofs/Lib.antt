@@ -2,3 +2,4 @@ pub mod FilterLaws
 pub mod IsolationLaws
 pub mod RefusalLaws
 pub mod SlotLaws
+pub mod AgreeLaws

@@ -1,19 +1,21 @@
 -- Laws of lines that are refused at a desk.
 use Rattle.std.proofs.Common.{◌≡◌, ◌<◌, ◌^◌, ℕ, zero, suc, Bool, true, false, [], ◌∷◌, List, Option, Some, None, Ok, Err, codes, length, map, slice_get, unwrap_or, refl, ap, ap₂, ◌∙◌, arith}
-use Rattle.std.specs.Prelude.{IfSome, if◌then◌else◌}
+use Rattle.std.specs.Prelude.{IfSome, if◌then◌else◌, nat_lt}
+use Rattle.std.proofs.lemmas.Bool.{le-ltb}
+use Rattle.base_core.specs.Base.{Base}
+use Rattle.base_core.specs.Compacted.{compacted}
+use Rattle.edit_commands.specs.Compacting.{numbers_of}
+use Rattle.filter_seat.proofs.FollowLaws.{seat_same}
+use Rattle.filter_seat.specs.Following.{Moving, seat_after}
 use Rattle.filter_seat.specs.Seats.{Seat, first_seat}
 use Rattle.script_lines.specs.Clients.{has_ended, heard, said}
-use Rattle.script_text.specs.Tasks.{Order, Task, task}
+use Rattle.script_text.specs.Tasks.{Order, Task}
 use Rattle.script_text.specs.declared.command.Command.TheVariants.{Compact, Demo, Import, Replace}
 use Rattle.shell_commands.proofs.RefusedLaws.{refused}
 use Rattle.shell_commands.specs.Refused.{IsError}
-use Rattle.shell_commands.specs.Tasks.{order_work}
-use Rattle.shell_state.specs.State.{Shared, State}
-use Rattle.view_commands.specs.Views.{all_slots}
-use Rattle.view_commands.specs.declared.window.Window.{Window}
-use Rattle.desk_commands.proofs.SharedLaws.{Own, state_of}
+use Rattle.shell_state.specs.State.{State}
 use Rattle.desk_commands.specs.Desk.{Desk, brought, desk_by, desk_done, desk_said, desk_with, desks, each_seat, own_tasks, seen_by, unless_nothing, window_of}
-use Rattle.desk_runs.specs.Filters.{AreCounted, state_of_seat}
+use Rattle.desk_runs.specs.Filters.{AreCounted}
 
 -- ---- seats that stay
 
@@ -39,16 +41,18 @@ his_count (Some seat) few = few
 
 -- ---- a line that is refused
 
--- It brings nothing to another seat: of the commands that would, each is refused for every seat alike.
-none_brought : (w : Window) (order : Order) (body : List ℕ) (h : Shared) (own : Own) (seat : Seat) → length seat.filter < 2 ^ 64 → IsError ((order_work w order body).text (state_of h own))
-    → ((word : List ℕ) → order ≡ Ok (Import word) → ⊥) → ((seed games : ℕ) → order ≡ Ok (Demo seed games) → ⊥) → brought order body h h seat ≡ seat
-none_brought w (Ok (Import word)) body h own seat few is imports makes = absurd (imports word refl)
-none_brought w (Ok (Demo seed games)) body h own seat few is imports makes = absurd (makes seed games refl)
-none_brought w (Ok (Replace game word)) body h own seat few is imports makes =
-    ap (λ (s : State). s.seat) (refused all_slots (state_of_seat h seat) (task (Ok (Replace game word)) body) few is imports makes)
-none_brought w (Ok Compact) body h own seat few is imports makes =
-    ap (λ (s : State). s.seat) (refused all_slots (state_of_seat h seat) (task (Ok Compact) body) few is imports makes)
-none_brought w _ body h own seat few is imports makes = refl
+-- It brings nothing to another seat, since it leaves the base as it was.
+not_less : (n : ℕ) → nat_lt n n ≡ false
+not_less n = le-ltb n n (omega arith)
+
+none_brought : (order : Order) (base : Base) (seat : Seat) → ((word : List ℕ) → order ≡ Ok (Import word) → ⊥) → ((seed games : ℕ) → order ≡ Ok (Demo seed games) → ⊥) → brought order base base seat ≡ seat
+none_brought (Ok (Import word)) base seat imports makes = absurd (imports word refl)
+none_brought (Ok (Demo seed games)) base seat imports makes = absurd (makes seed games refl)
+none_brought (Ok (Replace game word)) base seat imports makes =
+    ap (λ (b : Bool). seat_after (if b then Moving.started game else Moving.nothing) seat) (not_less base.end) ∙ seat_same seat
+none_brought (Ok Compact) base seat imports makes =
+    ap (λ (b : Bool). seat_after (if b then Moving.numbered (record { to = numbers_of base; kept = length (compacted base).games }) else Moving.nothing) seat) (not_less (length base.games)) ∙ seat_same seat
+none_brought _ base seat imports makes = seat_same seat
 
 if_each : (o : Option Seat) (P Q : Seat → Type 0) → ((seat : Seat) → P seat → Q seat) → IfSome o P → IfSome o Q
 if_each None P Q to has = tt
@@ -58,12 +62,11 @@ said_refused : (desk : Desk) (client : ℕ) (task : Task) → AreCounted desk �
     → ((word : List ℕ) → task.order ≡ Ok (Import word) → ⊥) → ((seed games : ℕ) → task.order ≡ Ok (Demo seed games) → ⊥) → desk_by desk client task ≡ desk
 said_refused desk client task counted is imports makes =
     let s : State = seen_by desk client in
-    let own : Own = record { seat = s.seat; slots = desk.slots } in
     let same : (own_tasks desk client).after s task ≡ s =
     refused (window_of desk.clients client) s task (his_count (slice_get desk.seats client) (counted client)) is imports makes in
-    let seats : each_seat client s.seat (brought task.order task.body desk.shared desk.shared) desk.seats ≡ desk.seats =
-    each_same client s.seat (brought task.order task.body desk.shared desk.shared) desk.seats (his_seat (slice_get desk.seats client))
-    (λ i. if_each (slice_get desk.seats i) _ _ (λ seat few. none_brought (window_of desk.clients client) task.order task.body desk.shared own seat few is imports makes) (counted i)) in
+    let seats : each_seat client s.seat (brought task.order desk.shared.base desk.shared.base) desk.seats ≡ desk.seats =
+    each_same client s.seat (brought task.order desk.shared.base desk.shared.base) desk.seats (his_seat (slice_get desk.seats client))
+    (λ i. if_each (slice_get desk.seats i) _ _ (λ seat few. none_brought task.order desk.shared.base seat imports makes) (counted i)) in
     ap (desk_with desk client task) same ∙ ap (λ (all : List Seat). record desk { seats = all }) seats
 
 done_refused : (ended : Bool) (desk : Desk) (client : ℕ) (task : Task) → AreCounted desk

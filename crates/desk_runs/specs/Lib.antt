@@ -1,2 +1,3 @@
 pub mod Filters
 pub mod Isolation
+pub mod Desks

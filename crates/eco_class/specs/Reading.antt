@@ -21,8 +21,7 @@ played p (word ∷ words) = san_answer p word >>= λ m. played (stepped p m) wor
 
 -- The table with one more line, unless an earlier one, with this number, ends on the same board with the same side to move.
 abbrev pub joined : List Opening → Opening → Option ℕ → Result (List Opening) EcoFault
-joined table opening earlier =
-    option_map_or (λ line. Err (record { line = opening.line; what = Twice line })) earlier (Ok (table ++ opening ∷ []))
+joined table opening earlier = option_map_or (λ line. Err (record { line = opening.line; what = Twice line })) earlier (Ok (table ++ opening ∷ []))
 
 -- The table with the line of this number, which is this code, if it is one, and then the words of these moves. A table has at most 65,536
 -- lines with a code.

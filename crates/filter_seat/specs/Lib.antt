@@ -1,2 +1,3 @@
 pub mod SavedFilters
 pub mod Seats
+pub mod Following

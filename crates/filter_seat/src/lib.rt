@@ -2,9 +2,11 @@
 //! base.
 #![tactic(auto)]
 
+mod following;
 mod saved;
 mod seat;
 
+pub use following::{Moved, follow};
 pub use saved::{
     SavedFilter, forget, keep, leave_out, meet, named, put_at_start, renumber_all, take_from, unite,
 };

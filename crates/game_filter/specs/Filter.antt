@@ -1,13 +1,19 @@
 -- A filter is a list of optional plies, one per game: the ply at which the game is in, or none if
 -- it is out. Each operation on filters is a function of such lists. This project's own; the
 -- operations are those of Scid's filters.
-use Rattle.std.specs.Prelude.{ℕ, nat_le, ◌&&◌, if◌then◌else◌, List, Option, Some, None, map, replicate, count_by, is_some}
+use Rattle.std.specs.Prelude.{ℕ, ◌≡◌, ◌<◌, ◌+◌, ◌*◌, ◌==◌, nat_le, ◌&&◌, if◌then◌else◌, List, Option, Some, None, map, replicate, count_by, is_some, length, slice_index_or}
+use Rattle.std.specs.Int.{bit_at}
 use Rattle.std.specs.List.{enumerate_from, zip}
 use Rattle.std.specs.Option.{option_and, option_or}
 
 -- The number of games that are in.
 abbrev pub count_in : List (Option ℕ) → ℕ
 count_in plies = count_by is_some plies
+
+-- The bits of a word tell which of the 64 games from number 64 k on are in.
+abbrev pub AreMarks : List (Option ℕ) → ℕ → ℕ → Type 0
+AreMarks plies k word =
+    (j : ℕ) → j < 64 → 64 * k + j < length plies → (bit_at word j == 1) ≡ is_some (slice_index_or plies (64 * k + j) None)
 
 -- The filter of n games that has all of them in, at ply 0.
 abbrev pub all_in : ℕ → List (Option ℕ)

@@ -28,8 +28,8 @@ impl Model for Entries {
 }
 
 impl Entries {
-    ghost use Rattle.std.specs.Prelude.{◌≡◌, ◌<◌, ◌≤◌, ◌+◌, [], ◌∷◌, ◌++◌, None, Some, is_some, length, slice_get, slice_index_or, slice_set, take, IfOk, OnOk, OnErr};
-    ghost use Rattle.game_filter.specs.Filter.{all_in, all_out, intersection, negated};
+    ghost use Rattle.std.specs.Prelude.{◌≡◌, ◌<◌, ◌≤◌, ◌+◌, ◌*◌, [], ◌∷◌, ◌++◌, None, Some, is_some, length, slice_get, slice_index_or, slice_set, take, IfOk, OnOk, OnErr};
+    ghost use Rattle.game_filter.specs.Filter.{AreMarks, all_in, all_out, intersection, negated};
 
     /// The entries of `n` games that are in, at ply 0.
     pub(crate) fn all_in(alloc: Global, n: u32) -> Result<Entries, AllocError>
@@ -89,6 +89,14 @@ impl Entries {
         ensures is_in { result ≡ is_some (slice_index_or self.now i None) }
     {
         has_bit(self.inside[i as usize / 64], i % 64)
+    }
+
+    /// Which of the 64 games from number 64 `k` on are in: bit j is that of game 64 `k` + j.
+    pub(crate) fn block(&self, k: u32) -> u64
+        requires games { 64 * k < length self.now }
+        ensures marks { AreMarks self.now k result }
+    {
+        self.inside[k as usize]
     }
 
     /// Gives game `i` another entry.

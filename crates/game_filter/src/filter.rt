@@ -27,8 +27,8 @@ impl Model for Filter {
 }
 
 impl Filter {
-    ghost use Rattle.std.specs.Prelude.{◌≡◌, ◌^◌, ◌<◌, ℕ, [], ◌∷◌, ◌++◌, Some, length, map, slice_get, slice_set, IfOk, OnOk, OnErr};
-    ghost use Rattle.game_filter.specs.Filter.{all_in, all_out, count_in, negated, intersection, union, restricted};
+    ghost use Rattle.std.specs.Prelude.{◌≡◌, ◌^◌, ◌<◌, ◌*◌, ℕ, [], ◌∷◌, ◌++◌, Some, length, map, slice_get, slice_set, IfOk, OnOk, OnErr};
+    ghost use Rattle.game_filter.specs.Filter.{AreMarks, all_in, all_out, count_in, negated, intersection, union, restricted};
     ghost use Rattle.game_filter.specs.Renumbering.{renumbered};
 
     /// The filter of `n` games that has every one of them in, at ply 0.
@@ -92,6 +92,14 @@ impl Filter {
         ensures entry { slice_get self.now i ≡ Some result }
     {
         self.entries.get(i)
+    }
+
+    /// Which of the 64 games from number 64 `k` on are in: bit j is that of game 64 `k` + j. Bits past the last game may be any.
+    pub fn block(&self, k: u32) -> u64
+        requires games { 64 * k < length self.now }
+        ensures marks { AreMarks self.now k result }
+    {
+        self.entries.block(k)
     }
 
     /// Puts game `i` in at a ply, or out.

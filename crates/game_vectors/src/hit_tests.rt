@@ -27,7 +27,7 @@ const KNIGHTS: &[u8] = b"\x00\x00\x67\x61\x62\x68\x28\x0f";
 const OWN_START: &[u8] = b"\x00\x01rnbqkbnr/pppppppp/8/8/8/8/PPPPPPPP/RNBQKBNR w - - 0 1\x00\x0f";
 
 // A hit: the game, the ply, and the squares of the move after it.
-type Row = (u32, u32, Option<(u8, u8)>);
+type Row = (u32, u8, Option<(u8, u8)>);
 
 const ADDED: [Row; 4] = [
     (0, 0, Some((12, 28))),

@@ -1,5 +1,5 @@
 //! The move after a board in a game that is in memory, and the moves of its main line.
-use cell_core::{Colour, pack};
+use cell_core::Colour;
 use chess_text::read_board;
 use game_codec::decode_game;
 use game_tree::main_line;
@@ -28,7 +28,7 @@ fn squares_after(
     side: Colour,
 ) -> Result<Option<Option<(u8, u8)>>, Fail> {
     let game = decode_game(alloc, record.split_at(record.len().min(100)).0)?.game;
-    match next_in(&pack(&read_board(board)?, side), &game) {
+    match next_in(&read_board(board)?, side, &game) {
         Some(Some(m)) => Ok(Some(Some((m.from.index(), m.to.index())))),
         Some(None) => Ok(Some(None)),
         None => Ok(None),

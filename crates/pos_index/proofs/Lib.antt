@@ -2,6 +2,7 @@ mod PointLemmas
 mod MovedLemmas
 mod SpotLemmas
 mod ListedLemmas
+mod SeenLemmas
 pub mod KeyLemmas
 mod PlaceLemmas
 mod GameLemmas

@@ -74,7 +74,7 @@ same_others rows i board row other_row lt same =
     around board i rows row lt ∙ ap (λ (l : List Hit). before board i rows ++ (l ++ behind board i rows)) same ∙ sym (around board i rows other_row lt)
 
 -- A spot apart from the others of its row.
-with_spot : (board i : ℕ) (xs ys : List Spot) (spot : Spot) → board ≡ spot.board → hits_at board i (xs ++ spot ∷ ys) ≡ hits_at board i xs ++ hit_of i spot ∷ hits_at board i ys
+pub with_spot : (board i : ℕ) (xs ys : List Spot) (spot : Spot) → board ≡ spot.board → hits_at board i (xs ++ spot ∷ ys) ≡ hits_at board i xs ++ hit_of i spot ∷ hits_at board i ys
 with_spot board i xs ys spot here =
     hits_at-append board i xs (spot ∷ ys)
     ∙ ap (λ (l : List Hit). hits_at board i xs ++ l) (hits_at-append board i (spot ∷ []) ys ∙ ap (λ (l : List Hit). l ++ hits_at board i ys) (hits_at-here board i spot here))

@@ -9,6 +9,7 @@ use Rattle.std.proofs.lemmas.List.Elements.{All-append, All-cons, All-head, All-
 use Rattle.cell_core.specs.declared.step.Move.{Move}
 use Rattle.cell_core.specs.Packed.{Packed}
 use Rattle.pos_index.specs.declared.hit.Hit.{Hit}
+use Rattle.pos_index.specs.Keeping.{IsApart}
 use Rattle.pos_index.specs.Hits.{Place, first_on, hits_from, hits_in, places_in, ply_and_next, same_packed}
 
 -- The hit of a place.
@@ -48,15 +49,6 @@ from-below board game (row ∷ rows) =
     (hits_from board (game + 1) rows) (from-below board (game + 1) rows))
 
 -- ---- one game
-
--- The hits of one game stand behind those of the games before it.
-pub record IsApart (hits : List Hit) (game : ℕ) (own : List Hit) : Type 0 where
-  pub before : List Hit
-  pub behind : List Hit
-  pub is : hits ≡ before ++ (own ++ behind)
-  pub below : All (λ (h : Hit). h.game < game) before
-  pub above : All (λ (h : Hit). game < h.game) behind
-  pub here : All (λ (h : Hit). h.game ≡ game) own
 
 own_apart : (board : Packed) (game : ℕ) (rows : List (List Place)) → game < length rows → IsApart (hits_from board 0 rows) game (hits_in board game (get_or rows game []))
 own_apart board game rows lt =

@@ -32,6 +32,49 @@ abbrev pub moved : List (Option ℕ) → List Hit → List Hit
 moved to [] = []
 moved to (hit ∷ hits) = moved_by (slice_index_or to hit.game None) hit (moved to hits)
 
+-- The hits of one game among those on a board.
+abbrev pub own_hits : ℕ → List Hit → List Hit
+own_hits game [] = []
+own_hits game (hit ∷ hits) = if game == hit.game then hit ∷ own_hits game hits else own_hits game hits
+
+-- The hits of a game stand together, behind those of the games before it.
+pub record IsApart (hits : List Hit) (game : ℕ) (own : List Hit) : Type 0 where
+  pub before : List Hit
+  pub behind : List Hit
+  pub is : hits ≡ before ++ (own ++ behind)
+  pub below : All (λ (h : Hit). h.game < game) before
+  pub above : All (λ (h : Hit). game < h.game) behind
+  pub here : All (λ (h : Hit). h.game ≡ game) own
+
+-- The hit at a place.
+abbrev pub hit_in : List Hit → ℕ → Hit
+hit_in hits k = slice_index_or hits k (record { game = 0; ply = 0; next = None })
+
+-- The boards of spots, and how often a board stands among others.
+abbrev pub board_of : Spot → ℕ
+board_of spot = spot.board
+
+abbrev pub boards_of : List (List Spot) → List (List ℕ)
+boards_of rows = map (map board_of) rows
+
+abbrev pub times : ℕ → List ℕ → ℕ
+times board [] = 0
+times board (other ∷ boards) = if board == other then times board boards + 1 else times board boards
+
+-- The spots of a game on boards, behind those that it was on before: the hit of each is the one of the game on that board behind as many
+-- others as the board stands before. And those of all games, the first of which has this number.
+abbrev pub spot_of : ℕ → Hit → Spot
+spot_of board hit = record { board = board; ply = hit.ply; next = hit.next }
+
+abbrev pub row_seen : List (List Hit) → ℕ → List ℕ → List ℕ → List Spot
+row_seen lists game before [] = []
+row_seen lists game before (board ∷ boards) =
+    spot_of board (hit_in (own_hits game (slice_index_or lists board [])) (times board before)) ∷ row_seen lists game (before ++ board ∷ []) boards
+
+abbrev pub rows_seen : List (List Hit) → ℕ → List (List ℕ) → List (List Spot)
+rows_seen lists game [] = []
+rows_seen lists game (row ∷ rows) = row_seen lists game [] row ∷ rows_seen lists (game + 1) rows
+
 -- The list at a number, and none past the last; and the same with another list there.
 abbrev pub row_in : {T : Type 0} → List (List T) → ℕ → List T
 row_in rows i = slice_index_or rows i []

@@ -54,7 +54,7 @@ impl<'a> BoardHits<'a> {
     }
 
     // The same if there are some hits.
-    #[inline(never)]
+    #[inline(always)]
     fn first_among(&mut self, game: u32) -> Option<(u32, Option<Move>)>
         ensures same { self.new ≡ self.old }
         ensures first { (board : Packed) (rows : List (List Place)) → self.old ≡ hits_from board 0 rows → result ≡ first_on board (places_in rows game) }
@@ -70,11 +70,12 @@ impl<'a> BoardHits<'a> {
             return None;
         }
         self.next = begin + 1;
-        Some((hit.ply, hit.next))
+        Some((u32::from(hit.ply), hit.next))
     }
 }
 
 // Where the hits of a game begin, or would: at a place that is given, if it is the right one.
+#[inline(always)]
 fn begin_of(hits: &[Hit], at: usize, game: u32) -> usize
     requires { at ≤ length hits.now }
     ensures first { (before behind : List Standing) → hits.now ≡ before ++ behind → All (λ h. h.game < game) before → All (λ h. game ≤ h.game) behind → result ≡ length before }
@@ -88,6 +89,7 @@ fn begin_of(hits: &[Hit], at: usize, game: u32) -> usize
 }
 
 // Whether the hits of a game begin at this place, or would.
+#[inline(always)]
 fn begins_at(hits: &[Hit], at: usize, game: u32) -> bool
     requires { at ≤ length hits.now }
     ensures { IsTrue result → (before behind : List Standing) → hits.now ≡ before ++ behind → All (λ h. h.game < game) before → All (λ h. game ≤ h.game) behind → at ≡ length before }

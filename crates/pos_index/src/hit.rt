@@ -5,6 +5,6 @@ use cell_core::Move;
 #[derive(Clone, Copy, Debug, Default, PartialEq, Eq)]
 pub struct Hit {
     pub game: u32,
-    pub ply: u32,
+    pub ply: u8,
     pub next: Option<Move>,
 }

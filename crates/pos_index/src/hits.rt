@@ -1,7 +1,7 @@
 //! The hits on one board.
 ghost use Rattle.std.specs.Prelude.{◌≡◌, ◌≤◌, ◌<◌, [], ◌∷◌, ◌++◌, All, List, OnOk, OnErr, length, take};
 ghost use Rattle.pos_index.specs.declared.hit.Hit.{Hit as Standing};
-ghost use Rattle.pos_index.specs.Keeping.{moved};
+ghost use Rattle.pos_index.specs.Keeping.{IsApart, hit_in, moved, own_hits};
 
 use crate::hit::Hit;
 use cell_core::Move;
@@ -74,6 +74,15 @@ impl Hits {
         }
     }
 
+    /// The hit of a game behind so many others of the game.
+    pub(crate) fn hit(&self, game: u32, rank: usize) -> Hit
+        requires apart { IsApart self.now game (own_hits game self.now) }
+        requires rank { rank < length (own_hits game self.now) }
+        ensures { result ≡ hit_in (own_hits game self.now) rank }
+    {
+        self.hits.as_slice()[self.first_of(game) + rank]
+    }
+
     /// Sets the move after a hit of a game, the one behind so many others of the game.
     pub(crate) fn set_next(&mut self, game: u32, rank: usize, next: &Option<Move>)
         ensures { (before own behind : List Standing) (hit : Standing) → self.old ≡ before ++ (own ++ hit ∷ behind) → All (λ h. h.game < game) before → All (λ h. game ≤ h.game) (own ++ hit ∷ behind)
@@ -110,6 +119,7 @@ impl Hits {
 }
 
 /// Where the hits of a game begin, or would.
+#[inline(never)]
 pub(crate) fn first_of(hits: &[Hit], game: u32) -> usize
     ensures first { (before behind : List Standing) → hits.now ≡ before ++ behind → All (λ h. h.game < game) before → All (λ h. game ≤ h.game) behind → result ≡ length before }
     ensures within { result ≤ length hits.now }

@@ -1,7 +1,7 @@
 //! The hits by the numbers of boards, and the boards of each game.
-ghost use Rattle.std.specs.Prelude.{◌≡◌, ◌+◌, ◌≤◌, ◌<◌, ◌^◌, ℕ, [], ◌∷◌, ◌++◌, All, List, length, drop, map, slice_set, take, OnOk, OnErr};
+ghost use Rattle.std.specs.Prelude.{◌≡◌, ◌+◌, ◌≤◌, ◌<◌, ◌^◌, [], ◌∷◌, ◌++◌, All, List, length, drop, map, slice_set, take, OnOk, OnErr};
 ghost use Rattle.game_filter.specs.Renumbering.{renumbered};
-ghost use Rattle.pos_index.specs.Keeping.{AreListed, EndsEmpty, hits_at, hits_by, moved, next_set, row_in, spot_in, with_row};
+ghost use Rattle.pos_index.specs.Keeping.{AreListed, EndsEmpty, board_of, boards_of, hits_by, moved, next_set, row_in, spot_in, times, with_row};
 ghost use Rattle.pos_index.specs.declared.hit.Hit.{Hit as Hitting};
 ghost use Rattle.pos_index.specs.declared.spot.Spot.{Spot as Standing};
 
@@ -23,13 +23,13 @@ pub(crate) struct Lists {
 
 impl Model for Lists {
     ghost use Rattle.std.specs.Prelude.{length};
-    ghost use Rattle.pos_index.specs.Keeping.{Listed, AreListed};
+    ghost use Rattle.pos_index.specs.Keeping.{Listed, AreListed, rows_seen};
 
     ghost Value = { Listed };
 
-    ghost view = { λ l. record { boards = length l.lists.items; rows = l.rows.items } };
+    ghost view = { λ l. record { boards = length l.lists.items; rows = rows_seen l.lists.items 0 l.rows.items } };
 
-    ghost invariant = { λ l. AreListed l.lists.items l.rows.items };
+    ghost invariant = { λ l. AreListed l.lists.items (rows_seen l.lists.items 0 l.rows.items) };
 }
 
 impl Lists {
@@ -50,11 +50,27 @@ impl Lists {
         self.lists.len()
     }
 
-    /// The spots of each game.
+    /// The boards of each game.
     pub(crate) fn rows(&self) -> &[Row]
-        ensures { result.now ≡ self.now.rows }
+        ensures { result.now ≡ boards_of self.now.rows }
     {
         self.rows.as_slice()
+    }
+
+    /// Spot `k` of game `i`.
+    pub(crate) fn spot(&self, i: u32, k: usize) -> Spot
+        requires game { i < length self.now.rows }
+        requires spot { k < length (row_in self.now.rows i) }
+        ensures { result ≡ spot_in (row_in self.now.rows i) k }
+    {
+        let boards = self.rows[i as usize].boards();
+        let board = boards[k];
+        let hit = self.lists[board as usize].hit(i, times(boards.split_at(k).0, board));
+        Spot {
+            board,
+            ply: hit.ply,
+            next: hit.next,
+        }
     }
 
     /// The hits on a board.
@@ -123,7 +139,7 @@ impl Lists {
         requires spots { from + count ≤ length (row_in self.old.rows i) }
         ensures { self.new ≡ record self.old { rows = with_row self.old.rows i (take from (row_in self.old.rows i) ++ drop (from + count) (row_in self.old.rows i)) } }
     {
-        let (front, rest) = self.rows[i as usize].spots().split_at(from);
+        let (front, rest) = self.rows[i as usize].boards().split_at(from);
         take_middle(self.lists.as_mut_slice(), front, rest.split_at(count).0, i);
         self.rows[i as usize].drop_middle(from, count);
     }
@@ -134,11 +150,10 @@ impl Lists {
         requires spot { k < length (row_in self.old.rows i) }
         ensures { self.new ≡ record self.old { rows = with_row self.old.rows i (slice_set (row_in self.old.rows i) k (next_set next.now (spot_in (row_in self.old.rows i) k))) } }
     {
-        let spots = self.rows[i as usize].spots();
-        let board = spots[k].board;
-        let before = rank(spots.split_at(k).0, board);
+        let boards = self.rows[i as usize].boards();
+        let board = boards[k];
+        let before = times(boards.split_at(k).0, board);
         self.lists[board as usize].set_next(i, before, next);
-        self.rows[i as usize].set_next(k, next);
     }
 
     /// The first spots of game `i` stay, so many.
@@ -146,9 +161,9 @@ impl Lists {
         requires game { i < length self.old.rows }
         ensures { self.new ≡ record self.old { rows = with_row self.old.rows i (take count (row_in self.old.rows i)) } }
     {
-        let spots = self.rows[i as usize].spots();
-        let kept = count.min(spots.len());
-        take_lasts(self.lists.as_mut_slice(), spots.split_at(kept).1, i);
+        let boards = self.rows[i as usize].boards();
+        let kept = count.min(boards.len());
+        take_lasts(self.lists.as_mut_slice(), boards.split_at(kept).1, i);
         self.rows[i as usize].truncate(kept);
     }
 
@@ -164,17 +179,17 @@ impl Lists {
 
 // One spot more of game `game`, in its row and among the hits on its board.
 fn put_in(row: &mut Row, hits: &mut Hits, game: u32, spot: &Spot) -> Result<(), AllocError>
-    ensures row { OnOk result (row.new ≡ row.old ++ spot.now ∷ []) }
+    ensures row { OnOk result (row.new ≡ row.old ++ spot.now.board ∷ []) }
     ensures put { (before behind : List Hitting) → hits.old ≡ before ++ behind → All (λ h. h.game ≤ game) before → All (λ h. game < h.game) behind
         → OnOk result (hits.new ≡ before ++ record { game = game; ply = spot.now.ply; next = spot.now.next } ∷ behind) }
     ensures unchanged { OnErr result ((row.new ≡ row.old) × (hits.new ≡ hits.old)) }
 {
     let hit = Hit {
         game,
-        ply: u32::from(spot.ply),
+        ply: spot.ply,
         next: spot.next,
     };
-    row.push(spot.board, spot.ply, &spot.next)?;
+    row.push(spot.board)?;
     match hits.put(hit) {
         Ok(()) => Ok(()),
         Err(refused) => {
@@ -184,41 +199,42 @@ fn put_in(row: &mut Row, hits: &mut Hits, game: u32, spot: &Spot) -> Result<(), 
     }
 }
 
-// How many of these spots are on a board.
-fn rank(spots: &[Spot], board: u32) -> usize
-    ensures rank { (game : ℕ) → result ≡ length (hits_at board game spots.now) }
-    ensures within { result ≤ length spots.now }
+// How often a board stands among these.
+fn times(boards: &[u32], board: u32) -> usize
+    ensures times { result ≡ times board boards.now }
+    ensures within { result ≤ length boards.now }
 {
     let mut found = 0;
-    for spot in spots {
-        if spot.board == board {
+    for k in 0..boards.len() {
+        if boards[k] == board {
             found += 1;
         }
     }
     found
 }
 
-// Takes the hits of the spots of game `game` out that stand behind those in front.
-fn take_middle(lists: &mut [Hits], front: &[Spot], spots: &[Spot], game: u32)
-    requires { All (λ spot. spot.board < length lists.old) spots.now }
+// Takes the hits of the spots of game `game` out that are on these boards, behind those on the boards in front.
+fn take_middle(lists: &mut [Hits], front: &[u32], boards: &[u32], game: u32)
+    requires { All (λ board. board < length lists.old) boards.now }
     ensures len { length lists.new ≡ length lists.old }
-    ensures taken { (rows : List (List Standing)) (behind : List Standing) → game < length rows → row_in rows game ≡ front.now ++ (spots.now ++ behind) → AreListed lists.old rows
-        → AreListed lists.new (with_row rows game (front.now ++ behind)) }
+    ensures taken { (rows : List (List Standing)) (before spots behind : List Standing) → game < length rows → row_in rows game ≡ before ++ (spots ++ behind)
+        → front.now ≡ map board_of before → boards.now ≡ map board_of spots → AreListed lists.old rows → AreListed lists.new (with_row rows game (before ++ behind)) }
 {
-    for spot in spots {
-        lists[spot.board as usize].take(game, rank(front, spot.board));
+    for k in 0..boards.len() {
+        let board = boards[k];
+        lists[board as usize].take(game, times(front, board));
     }
 }
 
-// Takes the hits of the last spots of game `game` out.
-fn take_lasts(lists: &mut [Hits], spots: &[Spot], game: u32)
-    requires { All (λ spot. spot.board < length lists.old) spots.now }
+// Takes the hits of the last spots of game `game` out, which are on these boards.
+fn take_lasts(lists: &mut [Hits], boards: &[u32], game: u32)
+    requires { All (λ board. board < length lists.old) boards.now }
     ensures len { length lists.new ≡ length lists.old }
-    ensures taken { (rows : List (List Standing)) (front : List Standing) → game < length rows → row_in rows game ≡ front ++ spots.now → AreListed lists.old rows
-        → AreListed lists.new (with_row rows game front) }
+    ensures taken { (rows : List (List Standing)) (front spots : List Standing) → game < length rows → row_in rows game ≡ front ++ spots → boards.now ≡ map board_of spots
+        → AreListed lists.old rows → AreListed lists.new (with_row rows game front) }
 {
-    for k in 0..spots.len() {
-        let board = spots[spots.len() - 1 - k].board;
+    for k in 0..boards.len() {
+        let board = boards[boards.len() - 1 - k];
         lists[board as usize].take_last(game);
     }
 }

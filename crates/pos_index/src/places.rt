@@ -62,7 +62,7 @@ impl Places {
         requires { i < length self.now }
         ensures { result ≡ length (row_in self.now i) }
     {
-        self.lists.rows()[i as usize].spots().len()
+        self.lists.rows()[i as usize].boards().len()
     }
 
     /// The hits on a board.
@@ -119,7 +119,7 @@ impl Places {
         requires place { k < length (row_in self.now i) }
         ensures at { IsTrue result → IsPlaceOn board.now k (place_in (row_in self.now i) k) }
     {
-        let spot = &self.lists.rows()[i as usize].spots()[usize::from(k)];
+        let spot = self.lists.spot(i, usize::from(k));
         match self.boards.get_index(spot.board as usize) {
             Some(other) => other == board && spot.ply == k,
             None => false,
@@ -216,7 +216,7 @@ impl Places {
         requires place { k < length (row_in self.now i) }
         ensures place { place_in (row_in self.now i) k ≡ record { board = result.0; ply = result.1; next = result.2 } }
     {
-        let spot = &self.lists.rows()[i as usize].spots()[k];
+        let spot = self.lists.spot(i, k);
         (self.boards[spot.board as usize], spot.ply, spot.next)
     }
 }

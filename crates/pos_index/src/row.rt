@@ -1,89 +1,68 @@
-//! Where one game stands.
-ghost use Rattle.std.specs.Prelude.{◌≡◌, ◌+◌, ◌-◌, ◌≤◌, ◌<◌, [], ◌∷◌, ◌++◌, length, drop, take, slice_set, IfOk, OnOk, OnErr};
-ghost use Rattle.pos_index.specs.Keeping.{next_set, spot_in};
+//! The boards of one game.
+ghost use Rattle.std.specs.Prelude.{◌≡◌, ◌+◌, ◌-◌, ◌≤◌, [], ◌∷◌, ◌++◌, length, drop, take, IfOk, OnOk, OnErr};
 
-use crate::spot::Spot;
-use cell_core::Move;
 use std::alloc::{AllocError, Global};
 use std::marker::Model;
 
-/// The spots of one game, in order.
+/// The numbers of the boards on which a game stands, in order.
 #[derive(Drop)]
 pub(crate) struct Row {
-    spots: Vec<Spot>,
+    boards: Vec<u32>,
 }
 
 impl Model for Row {
-    ghost use Rattle.std.specs.Prelude.{List};
-    ghost use Rattle.pos_index.specs.declared.spot.Spot.{Spot as Standing};
+    ghost use Rattle.std.specs.Prelude.{List, ℕ};
 
-    ghost Value = { List Standing };
+    ghost Value = { List ℕ };
 
-    ghost view = { λ r. r.spots.items };
+    ghost view = { λ r. r.boards.items };
 }
 
 impl Row {
-    /// A row without spots, with memory for `spots` of them.
-    pub(crate) fn new(alloc: Global, spots: usize) -> Result<Row, AllocError>
+    /// A row without boards, with memory for `boards` of them.
+    pub(crate) fn new(alloc: Global, boards: usize) -> Result<Row, AllocError>
         ensures { IfOk result (λ row. row ≡ []) }
     {
         Ok(Row {
-            spots: Vec::with_capacity(alloc, spots)?,
+            boards: Vec::with_capacity(alloc, boards)?,
         })
     }
 
-    /// The spots.
-    pub(crate) fn spots(&self) -> &[Spot]
+    /// The boards.
+    pub(crate) fn boards(&self) -> &[u32]
         ensures { result.now ≡ self.now }
     {
-        self.spots.as_slice()
+        self.boards.as_slice()
     }
 
-    /// One spot more.
-    pub(crate) fn push(
-        &mut self,
-        board: u32,
-        ply: u8,
-        next: &Option<Move>,
-    ) -> Result<(), AllocError>
-        ensures pushed { OnOk result (self.new ≡ self.old ++ record { board = board; ply = ply; next = next.now } ∷ []) }
+    /// One board more.
+    pub(crate) fn push(&mut self, board: u32) -> Result<(), AllocError>
+        ensures pushed { OnOk result (self.new ≡ self.old ++ board ∷ []) }
         ensures unchanged { OnErr result (self.new ≡ self.old) }
     {
-        self.spots.push(Spot {
-            board,
-            ply,
-            next: *next,
-        })?;
+        self.boards.push(board)?;
         Ok(())
     }
 
-    /// The first spots stay, so many or all.
+    /// The first boards stay, so many or all.
     pub(crate) fn truncate(&mut self, count: usize)
         ensures { self.new ≡ take count self.old }
     {
-        self.spots.truncate(count);
+        self.boards.truncate(count);
     }
 
-    /// The last spot goes.
+    /// The last board goes.
     pub(crate) fn pop(&mut self)
         ensures { self.new ≡ take (length self.old - 1) self.old }
     {
-        self.spots.pop();
+        self.boards.pop();
     }
 
-    /// The spots from a place on go, so many.
+    /// The boards from a place on go, so many.
     pub(crate) fn drop_middle(&mut self, from: usize, count: usize)
         requires { from + count ≤ length self.old }
         ensures { self.new ≡ take from self.old ++ drop (from + count) self.old }
     {
-        self.spots.drain(from..from + count);
-    }
-
-    /// Sets the move after a spot.
-    pub(crate) fn set_next(&mut self, k: usize, next: &Option<Move>)
-        requires { k < length self.old }
-        ensures { self.new ≡ slice_set self.old k (next_set next.now (spot_in self.old k)) }
-    {
-        self.spots[k].next = *next;
+        self.boards.drain(from..from + count);
     }
 }

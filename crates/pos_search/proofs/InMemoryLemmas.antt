@@ -1,7 +1,6 @@
 -- The walk over the main line of a game in memory.
 use Rattle.std.proofs.Common.{◌≡◌, ℕ, ◌+◌, ◌<◌, ◌≤◌, zero, suc, true, false, Option, None, Some, List, [], ◌∷◌, length, get_or, refl, sym, ap, ◌∙◌, subst, arith, inl, inr}
 use Rattle.std.specs.Prelude.{option_map, slice_get}
-use Rattle.std.proofs.lemmas.Bool.{cases_Bool}
 use Rattle.std.proofs.lemmas.Option.{slice_get_past}
 use Rattle.cell_core.specs.declared.step.Move.{Move}
 use Rattle.cell_core.specs.Packed.{Packed, men_of, packed_of}
@@ -17,42 +16,43 @@ use Rattle.game_tree.proofs.LegalLemmas.{IsLegalGame-next}
 use Rattle.game_tree.proofs.TreeLemmas.{length-moves_of}
 use Rattle.pos_index.specs.Hits.{IsLegalOn}
 use Rattle.pos_index.proofs.LegalMoves.{legal_on}
+use Rattle.sig_index.specs.declared.pos_query.Mode.TheVariants.{Exact}
 use Rattle.sig_index.specs.declared.pos_query.PosQuery.{PosQuery}
 use Rattle.pos_search.specs.InMemory.{Seeks, next_of}
 use Rattle.pos_search.specs.Matching.{matches, matches_at}
+use Rattle.pos_search.specs.Sought.{IsTold, can_follow}
+use Rattle.pos_search.specs.declared.coming.Coming.{Coming}
 use Rattle.pos_search.proofs.AsideLemmas.{plain_hit}
-use Rattle.pos_search.proofs.FirstLemmas.{matches_from}
 use Rattle.pos_search.proofs.MatchLemmas.{matched}
-use Rattle.pos_search.proofs.WalkLemmas.{IsAt, at_next, at_start, found_here, hit_here, no_hit, none_at_end}
+use Rattle.pos_search.proofs.WalkLemmas.{IsAt, at_next, at_start, found_here, hit_here, no_hit, none_at_end, none_later}
 
--- A position is one that is sought where it has the board and the side.
-abbrev pub Stands : Packed → Setup → Type 0
-Stands board p = board ≡ packed_of p.board p.side
+-- What seeks a board is one query.
+pub seeks_same : (query other : PosQuery) (board : Packed) → Seeks query board → Seeks other board → query ≡ other
+seeks_same query other board a b =
+    let same : packed_of query.board query.side ≡ packed_of other.board other.side = sym a.board ∙ b.board in
+    let men : query.board ≡ other.board =
+    sym (given_back query.board a.squares) ∙ ap (λ (k : Packed). men_of k.cells) same ∙ given_back other.board b.squares in
+    let side = ap (λ (k : Packed). k.side) same in
+    λ i. record { mode = (a.exact ∙ sym b.exact) i; board = men i; side = side i; vars = (a.main ∙ sym b.main) i }
 
-matches_here : (query : PosQuery) (board : Packed) (p : Setup) → Seeks query board → Sound p → Stands board p → matches query p ≡ true
-matches_here query board p seeks sound here =
-    let same : packed_of p.board p.side ≡ packed_of query.board query.side = sym here ∙ seeks.board in
-    matches_from query p seeks.exact
-    (sym (given_back p.board sound.squares) ∙ ap (λ (k : Packed). men_of k.cells) same ∙ given_back query.board seeks.squares)
-    (ap (λ (k : Packed). k.side) same)
-
-fails_here : (query : PosQuery) (board : Packed) (p : Setup) → Seeks query board → (Stands board p → ⊥) → matches query p ≡ false
-fails_here query board p seeks not = elim (cases_Bool (matches query p)) [
-  | inl holds ↦
-      let m = matched query p holds in
-      absurd (not (seeks.board ∙ (λ i. packed_of (sym (m.exact seeks.exact) i) (sym m.side i))))
-  | inr fails ↦ fails
-]
-
--- The walk is at this ply of the game, and what is sought stands at none before it.
-pub record IsWalked (board : Packed) (game : GameTree) (ply : ℕ) (p : Setup) : Type 0 where
+-- The walk is at this ply of the game, and what is sought stands at none before it. What is kept of counts is so.
+pub record IsWalked (query : PosQuery) (game : GameTree) (ply : ℕ) (p : Setup) (coming : Coming) : Type 0 where
   pub at : p ≡ position_at game ply
-  pub before : (query : PosQuery) → Seeks query board → IsAt query game ply
+  pub before : IsAt query game ply
+  pub told : IsTold query coming
+  pub start : 0 < ply → Sound game.start
 
-pub walked-begin : (board : Packed) (game : GameTree) (p : Setup) → p ≡ game.start → IsWalked board game 0 p
-walked-begin board game p start = record {
+-- The game starts in a position that keeps the rules.
+start_sound : (query : PosQuery) (game : GameTree) (ply : ℕ) (p : Setup) (coming : Coming) → IsWalked query game ply p coming → Sound p → Sound game.start
+start_sound query game zero p coming so sound = subst Sound so.at sound
+start_sound query game (suc ply) p coming so sound = so.start (omega arith)
+
+pub walked-begin : (query : PosQuery) (game : GameTree) (p : Setup) (coming : Coming) → p ≡ game.start → IsTold query coming → IsWalked query game 0 p coming
+walked-begin query game p coming start told = record {
   at = start;
-  before = λ query seeks. at_start query game 0 refl;
+  before = at_start query game 0 refl;
+  told = told;
+  start = λ less. absurd (omega (arith, less));
 }
 
 -- The line of a game, from its parts.
@@ -93,30 +93,43 @@ next_step game p ply m legal at less then =
     (subst (λ (n : Move). Step (position_at game ply) n (position_at game (ply + 1))) same step.1.1)
 
 -- It goes on where the board does not stand.
-pub walked-more : (board : Packed) (game : GameTree) (ply : ℕ) (p q : Setup) (m : Move) → IsWalked board game ply p → IsLegalGame game → (Stands board p → ⊥)
-    → ply < plies_of game → next_at game ply ≡ Some m → ((r : Setup) → Step p m r → r ≡ q) → IsWalked board game (ply + 1) q
-walked-more board game ply p q m so legal not less then only = record {
+pub walked-more : (query : PosQuery) (game : GameTree) (ply : ℕ) (p q : Setup) (m : Move) (coming later : Coming) → IsWalked query game ply p coming
+    → Sound p → IsLegalGame game → matches query p ≡ false → IsTold query later → ply < plies_of game → next_at game ply ≡ Some m
+    → ((r : Setup) → Step p m r → r ≡ q) → IsWalked query game (ply + 1) q later
+walked-more query game ply p q m coming later so sound legal not told less then only = record {
   at = sym (only (position_at game (ply + 1)) (next_step game p ply m legal so.at less then));
-  before = λ query seeks. at_next query game ply (ply + 1) (so.before query seeks)
-      (subst (λ (r : Setup). matches query r ≡ false) so.at (fails_here query board p seeks not)) refl;
+  before = at_next query game ply (ply + 1) so.before (subst (λ (r : Setup). matches query r ≡ false) so.at not) refl;
+  told = told;
+  start = λ _. start_sound query game ply p coming so sound;
 }
 
 -- The board stands here, and this is the move then.
-pub walked-found : (board : Packed) (game : GameTree) (ply : ℕ) (p : Setup) (next : Option Move) → IsWalked board game ply p → Sound p → Stands board p
-    → ply ≤ plies_of game → next ≡ next_at game ply → (query : PosQuery) → Seeks query board → Some next ≡ next_of query game
-walked-found board game ply p next so sound here within is query seeks =
-    let holds : matches_at query game ply ≡ true = subst (λ (r : Setup). matches query r ≡ true) so.at (matches_here query board p seeks sound here) in
+pub walked-found : (query : PosQuery) (game : GameTree) (ply : ℕ) (p : Setup) (next : Option Move) (coming : Coming) → IsWalked query game ply p coming
+    → query.vars ≡ false → matches query p ≡ true → ply ≤ plies_of game → next ≡ next_at game ply → Some next ≡ next_of query game
+walked-found query game ply p next coming so main here within is =
+    let holds : matches_at query game ply ≡ true = subst (λ (r : Setup). matches query r ≡ true) so.at here in
     ap (option_map (λ (found : ℕ × Option Move). found.1))
-    (hit_here query game ply next (found_here query game ply (so.before query seeks) within holds) is ∙ plain_hit query game seeks.main)
+    (hit_here query game ply next (found_here query game ply so.before within holds) is ∙ plain_hit query game main)
+
+-- It can come no more.
+pub walked-past : (query : PosQuery) (game : GameTree) (ply : ℕ) (p : Setup) (coming : Coming) → IsWalked query game ply p coming → query.vars ≡ false
+    → Sound p → IsLegalGame game → can_follow query p ≡ false → None ≡ next_of query game
+walked-past query game ply p coming so main sound legal not =
+    let over : can_follow query (position_at game ply) ≡ false = subst (λ (r : Setup). can_follow query r ≡ false) so.at not in
+    ap (option_map (λ (found : ℕ × Option Move). found.1))
+    (no_hit query game (none_later query game ply so.before (start_sound query game ply p coming so sound) legal over) ∙ plain_hit query game main)
 
 -- The line ends, and it stands nowhere.
-pub walked-ended : (board : Packed) (game : GameTree) (ply : ℕ) (p : Setup) → IsWalked board game ply p → (Stands board p → ⊥) → plies_of game ≤ ply
-    → (query : PosQuery) → Seeks query board → None ≡ next_of query game
-walked-ended board game ply p so not last query seeks =
-    let fails : matches_at query game ply ≡ false = subst (λ (r : Setup). matches query r ≡ false) so.at (fails_here query board p seeks not) in
+pub walked-ended : (query : PosQuery) (game : GameTree) (ply : ℕ) (p : Setup) (coming : Coming) → IsWalked query game ply p coming → query.vars ≡ false
+    → matches query p ≡ false → plies_of game ≤ ply → None ≡ next_of query game
+walked-ended query game ply p coming so main not last =
+    let fails : matches_at query game ply ≡ false = subst (λ (r : Setup). matches query r ≡ false) so.at not in
     ap (option_map (λ (found : ℕ × Option Move). found.1))
-    (no_hit query game (none_at_end query game ply (so.before query seeks) fails last) ∙ plain_hit query game seeks.main)
+    (no_hit query game (none_at_end query game ply so.before fails last) ∙ plain_hit query game main)
 
 -- The move is legal there.
-pub legal_from : (board : Packed) (p q : Setup) (m : Move) → Sound p → Stands board p → Step p m q → IsLegalOn board m
-legal_from board p q m sound here step = legal_on p board m sound here (q, step)
+pub legal_from : (query : PosQuery) (p q : Setup) (m : Move) → query.mode ≡ Exact → Sound p → matches query p ≡ true → Step p m q
+    → IsLegalOn (packed_of query.board query.side) m
+legal_from query p q m exact sound here step =
+    let found = matched query p here in
+    legal_on p (packed_of query.board query.side) m sound (λ i. packed_of (sym (found.exact exact) i) (sym found.side i)) (q, step)

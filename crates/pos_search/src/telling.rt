@@ -58,6 +58,7 @@ fn nothing_told<'a>() -> Told<'a>
 }
 
 // The hit of game `i`, if it is told.
+#[inline(always)]
 pub(crate) fn hit_told(told: &mut Told<'_>, i: u32) -> Option<(u32, Option<Move>)>
     ensures same { told.new ≡ told.old }
     ensures told { (query : Query) (rows : List (List Place)) → told.old ≡ hits_told query rows → result ≡ hit_told query (places_in rows i) }
@@ -103,6 +104,7 @@ fn is_out_by(last: &Option<Last>, q: &Sought<'_>, sig: &Brief<'_>) -> bool
 }
 
 // The first matching ply of game `i`, if it is told.
+#[inline(always)]
 pub(crate) fn ply_told(told: &mut Told<'_>, i: u32) -> Option<u32>
     ensures same { told.new ≡ told.old }
     ensures told { (query : Query) (rows : List (List Place)) → told.old ≡ hits_told query rows → result ≡ ply_of (hit_told query (places_in rows i)) }

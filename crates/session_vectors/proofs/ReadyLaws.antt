@@ -1,5 +1,5 @@
 -- What a call leaves of a desk that is ready.
-use Rattle.std.proofs.Common.{◌≡◌, ℕ, ◌+◌, ◌<◌, ◌==◌, Bool, true, false, List, [], ◌∷◌, Option, Some, None, Result, Ok, Err, OnOk, length, length-append, get_or, slice_get, set, All, refl, sym, ap, subst, ◌∙◌, arith}
+use Rattle.std.proofs.Common.{◌≡◌, ℕ, ◌+◌, ◌<◌, ◌≤◌, ◌==◌, Bool, true, false, List, [], ◌∷◌, Option, Some, None, Result, Ok, Err, OnOk, length, get_or, slice_get, set, All, refl, sym, ap, subst, ◌∙◌, arith}
 use Rattle.std.specs.List.{AllPairs}
 use Rattle.std.specs.Prelude.{MatchResult}
 use Rattle.std.proofs.lemmas.Bool.{eqb-true, eqb-false}
@@ -14,13 +14,15 @@ use Rattle.client_desk.specs.declared.change.Change.{Change}
 use Rattle.client_desk.specs.declared.change.Change.TheVariants.{Added, Edited, Renumbered}
 use Rattle.client_desk.specs.declared.fault.SlotError.{SlotError}
 use Rattle.client_desk.specs.Seats.{Seated, IsSlot, ShowsSeat, holds_view}
-use Rattle.client_desk.specs.Changes.{Follows, filter_after}
+use Rattle.client_desk.specs.Changes.{Follows, moving_of}
 use Rattle.client_desk.specs.Desks.{Seating, Apart, Echoed}
 use Rattle.client_desk.specs.Lending.{with_seat}
 use Rattle.client_desk.proofs.DeskLaws.{got-below, one-apart, one-shown, echo-apart}
 use Rattle.client_desk.proofs.EchoLaws.{slot-of}
 use Rattle.client_desk.proofs.SeatLaws.{slot-below}
+use Rattle.filter_seat.proofs.FollowLaws.{longer}
 use Rattle.filter_seat.proofs.SavedLaws.{length_to_start}
+use Rattle.filter_seat.specs.Following.{filter_after}
 use Rattle.session_vectors.specs.Ready.{IsReady, Comes}
 
 -- One seat has become another.
@@ -56,8 +58,9 @@ filter-ready (Ok x) rows desk by old new before after plies ready there filter s
     one-ready rows desk by old new before after (length plies) ready there slots.0 slots.1 (ap (λ (l : List (Option ℕ)). length l) filter) others shows
 
 -- A change was brought to all.
-long-after : (entry : Option ℕ) (change : Change) (plies : List (Option ℕ)) (n after : ℕ) → length plies ≡ n → Comes change n after → length (filter_after entry change plies) ≡ after
-long-after entry (Added hits) plies n after long comes = omega (arith, long, comes.1, length-append plies (entry ∷ []))
+long-after : (entry : Option ℕ) (change : Change) (plies : List (Option ℕ)) (n after : ℕ) → length plies ≡ n → Comes change n after → length (filter_after entry (moving_of change (length plies)) plies) ≡ after
+long-after entry (Added hits) plies n after long comes =
+    let fewer : length plies ≤ length plies + 1 = omega arith in omega (arith, long, comes.1, longer entry (length plies + 1) plies fewer)
 long-after entry (Edited game true hits) plies n after long comes = length_to_start game plies ∙ long ∙ sym comes.1
 long-after entry (Edited game false hits) plies n after long comes = long ∙ sym comes.1
 long-after entry (Renumbered numbering) plies n after long comes =

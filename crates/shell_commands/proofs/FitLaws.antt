@@ -1,5 +1,5 @@
 -- The law that every filter has an entry for each game, and that at most eight are kept, whatever the tasks.
-use Rattle.std.proofs.Common.{◌≡◌, ℕ, zero, suc, ◌+◌, Bool, true, false, List, [], ◌∷◌, length, map, Option, Some, None, Result, Ok, Err, All, refl, sym, ap, ◌∙◌, subst, arith}
+use Rattle.std.proofs.Common.{◌≡◌, ℕ, ◌+◌, Bool, true, false, List, [], ◌∷◌, length, map, Option, Some, None, Result, Ok, Err, All, refl, sym, ap, ◌∙◌, subst, arith}
 use Rattle.std.proofs.lemmas.List.{length-append, length-map, length-replicate}
 use Rattle.std.proofs.lemmas.List.Elements.{All-nil}
 use Rattle.std.specs.Prelude.{nat_lt, slice_get, slice_set, if◌then◌else◌}
@@ -9,7 +9,6 @@ use Rattle.base_core.specs.Base.{Base, Held}
 use Rattle.base_core.specs.Compacted.{compacted}
 use Rattle.base_core.specs.Edits.{added, deleted, game_replaced, held_of, marked, tagged, tagged_at, undeleted, with_head}
 use Rattle.command_runs.specs.Plain.{after_all}
-use Rattle.demo_games.specs.Demo.{Made, demo_game}
 use Rattle.eco_class.specs.Reading.{table_of}
 use Rattle.eco_class.specs.Table.{Opening}
 use Rattle.eco_class.specs.declared.fault.EcoFault.{EcoFault}
@@ -29,22 +28,20 @@ use Rattle.game_tree.specs.Game.{GameTree}
 use Rattle.game_tree.specs.TagEdit.{edited}
 use Rattle.game_tree.specs.declared.head.Head.{Head}
 use Rattle.game_tree.specs.declared.tag_edit.TagEdit.{TagEdit}
-use Rattle.search_commands.proofs.DemoLaws.{unless_shown, unless_ended, unless_refusal}
-use Rattle.search_commands.specs.Demo.{Adding, adding}
-use Rattle.intake_commands.specs.Importing.{Intake, intake, item_after, none_taken, state_with, the_new}
-use Rattle.intake_commands.proofs.ByCase.{unless_not_added}
+use Rattle.search_commands.proofs.DemoLaws.{unless_shown}
+use Rattle.search_commands.specs.Demo.{adding}
+use Rattle.intake_commands.specs.Importing.{none_taken, state_with, the_new}
 use Rattle.pgn_read.specs.Items.{items_of}
-use Rattle.pgn_read.specs.declared.item.Item.{Item}
-use Rattle.pgn_read.specs.declared.item.Item.TheVariants.{Bad, Good}
 use Rattle.report_commands.specs.Classifying.{state_by}
 use Rattle.report_commands.specs.Twins.{found_twins, with_deleted}
 use Rattle.report_commands.specs.Ends.{all_deleted}
 use Rattle.script_text.specs.Tasks.{Order, Task}
 use Rattle.script_text.specs.declared.command.Command.{Command}
-use Rattle.script_text.specs.declared.command.Command.TheVariants.{Nothing, Find, SearchPosition, SearchMaterial, SearchHeader, Reset, Clear, Negate, Restrict, Keep, Take, And, Or, Drop, Hits, List as Listing, Show, Export, Import, Replace, Eco, Tag, Delete, Undelete, Mark, Tree, Watch, View, Unwatch, Cross, Twins, Index, Save, Info, Demo, Quit, Compact}
+use Rattle.script_text.specs.declared.command.Command.TheVariants.{Find, SearchPosition, SearchMaterial, SearchHeader, Reset, Clear, Negate, Restrict, Keep, Take, And, Or, Drop, Import, Replace, Eco, Tag, Delete, Undelete, Mark, Watch, Unwatch, Twins, Index, Save, Demo, Compact}
+use Rattle.shell_commands.proofs.GrowLaws.{adding_keeps, items_keep}
 use Rattle.shell_commands.specs.Tasks.{command_work, order_work, tasks}
 use Rattle.index_commands.specs.Indexing.{is_too_big}
-use Rattle.shell_state.specs.Refusing.{not_added, refusal_of}
+use Rattle.shell_state.specs.Refusing.{refusal_of}
 use Rattle.shell_state.specs.Slots.{Slot}
 use Rattle.shell_state.specs.State.{HasFilters, Shared, State, begin, with_filter, with_game, with_index}
 use Rattle.shell_state.specs.declared.refusing.Refusal.{Refusal}
@@ -156,31 +153,6 @@ one_has s head game has =
       few = kept.1;
     }
 
-item_by : (why : Option Refusal) (i : Intake) (head : Head) (game : GameTree) → HasFilters i.state → HasFilters (unless_not_added why i head game).state
-item_by (Some why) i head game has = has
-item_by None i head game has = one_has i.state head game has
-
-item_has : (i : Intake) (item : Item) → HasFilters i.state → HasFilters (item_after i item).state
-item_has i (Good head game) has = item_by (not_added i.state.shared head game) i head game has
-item_has i (Bad fault) has = has
-
-items_have : (i : Intake) (items : List Item) → HasFilters i.state → HasFilters (after_all intake i items).state
-items_have i [] has = has
-items_have i (item ∷ items) has = items_have (item_after i item) items (item_has i item has)
-
-made_by : (why : Option Refusal) (a : Adding) (made : Made) → HasFilters a.state → HasFilters (unless_refusal why a made).state
-made_by (Some why) a made has = has
-made_by None a made has = one_has a.state made.head made.game has
-
-one_by : (why : Option Refusal) (a : Adding) (made : Made) → HasFilters a.state → HasFilters (unless_ended why a made).state
-one_by (Some why) a made has = has
-one_by None a made has = made_by (not_added a.state.shared made.head made.game) a made has
-
-adding_has : (s : State) (seed games : ℕ) → HasFilters s → HasFilters (adding s seed games).state
-adding_has s seed zero has = has
-adding_has s seed (suc games) has =
-    one_by (adding s seed games).refused (adding s seed games) (demo_game (adding s seed games).number games) (adding_has s seed games has)
-
 shown_has : (why : Option Refusal) (s : State) → HasFilters s → HasFilters (unless_shown why s)
 shown_has (Some why) s has = has
 shown_has None s has = refiltered s _ (length-searched Ignore _ s.seat.filter) has
@@ -215,7 +187,6 @@ indexed_has false s depth has = record { fit = record { filter = has.fit.filter;
 -- ---- each command
 
 command_has : (w : Window) (s : State) (command : Command) (body : List ℕ) → HasFilters s → HasFilters ((command_work w command body).after s)
-command_has w s Nothing body has = has
 command_has w s (Find board side) body has = refiltered s _ (length-searched Ignore _ s.seat.filter) has
 command_has w s (SearchPosition op query) body has = refiltered s _ (length-searched op _ s.seat.filter) has
 command_has w s (SearchMaterial op query) body has = refiltered s _ (length-searched op _ s.seat.filter) has
@@ -232,30 +203,22 @@ command_has w s (And name) body has =
 command_has w s (Or name) body has =
     refiltered s _ (joined_long s.seat.saved name (length s.shared.base.games) s.seat.filter union has.fit.saved (λ other long. length_joined option_or s.seat.filter other (has.fit.filter ∙ sym long) ∙ has.fit.filter) has.fit.filter ∙ sym has.fit.filter) has
 command_has w s (Drop name) body has = resaved s _ (one_dropped s.seat.saved name (length s.shared.base.games) (kept_of s has)) has
-command_has w s Hits body has = has
-command_has w s Listing body has = has
-command_has w s (Show game) body has = has
-command_has w s Export body has = has
-command_has w s (Import word) body has = items_have (none_taken s) (items_of body) has
+command_has w s (Import word) body has = items_keep HasFilters one_has (none_taken s) (items_of body) has
 command_has w s (Replace game word) body has = replaced_has s game (the_new s game body) has
 command_has w s (Eco word) body has = eco_has s (table_of body) has
 command_has w s (Tag game edit) body has = tag_has game edit s (slice_get s.shared.base.games game) has
 command_has w s (Delete game) body has = edited_has (deleted game) s (slice_get s.shared.base.games game) (deleted_long game s.shared.base) has
 command_has w s (Undelete game) body has = edited_has (undeleted game) s (slice_get s.shared.base.games game) (undeleted_long game s.shared.base) has
 command_has w s (Mark game bit on) body has = edited_has (marked game bit on) s (slice_get s.shared.base.games game) (marked_long game bit on s.shared.base) has
-command_has w s (Tree board side) body has = has
 command_has w s (Watch slot board side) body has = with_has w s slot _ has
-command_has w s (View slot) body has = has
 command_has w s (Unwatch slot) body has = with_has w s slot _ has
-command_has w s (Cross event) body has = has
 command_has w s (Twins depth) body has = twins_has s (found_twins s depth) has
 command_has w s (Index (Some depth)) body has = indexed_has (is_too_big s depth) s depth has
 command_has w s (Index None) body has = record { fit = record { filter = has.fit.filter; saved = has.fit.saved }; few = has.few }
 command_has w s Save body has = reshared s _ refl has
-command_has w s Info body has = has
-command_has w s (Demo seed games) body has = shown_has (adding s seed games).refused (adding s seed games).state (adding_has s seed games has)
-command_has w s Quit body has = has
+command_has w s (Demo seed games) body has = shown_has (adding s seed games).refused (adding s seed games).state (adding_keeps HasFilters one_has s seed games has)
 command_has w s Compact body has = compacted_has (is_within s.shared.base) s has
+command_has w s _ body has = has
 
 order_has : (w : Window) (s : State) (order : Order) (body : List ℕ) → HasFilters s → HasFilters ((order_work w order body).after s)
 order_has w s (Ok command) body has = command_has w s command body has

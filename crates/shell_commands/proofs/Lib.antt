@@ -1,9 +1,10 @@
 pub mod TaskLaws
-pub mod SayLaws
 pub mod RefusedLaws
+pub mod GrowLaws
 pub mod FitLaws
 pub mod SlotLaws
 pub mod ShownLaws
 pub mod ViewLaws
 pub mod WindowLaws
 pub mod MarkLaws
+pub mod TurnLaws

@@ -1,7 +1,7 @@
 -- Laws of refused tasks: a text that begins with `error: ` leaves the state as it was.
 use Rattle.filter_seat.specs.declared.saved.SavedFilter.{SavedFilter}
 use Rattle.std.specs.Option.{option_map_or}
-use Rattle.std.proofs.Common.{◌≡◌, ◌<◌, ◌+◌, ◌%◌, ◌^◌, true≢false, ℕ, zero, suc, Bool, true, false, List, [], ◌∷◌, ◌++◌, length, Option, Some, None, Result, Ok, Err, refl, sym, ap, ◌∙◌, subst, arith, append_assoc, append-nil}
+use Rattle.std.proofs.Common.{◌≡◌, ◌<◌, ◌+◌, ◌%◌, ◌^◌, true≢false, ℕ, Bool, true, false, List, [], ◌∷◌, ◌++◌, length, Option, Some, None, Result, Ok, Err, refl, sym, ap, ◌∙◌, subst, arith, append_assoc, append-nil}
 use Rattle.std.specs.Prelude.{codes, unwrap_or, if◌then◌else◌, is_some, nat_eq, nat_lt, option_and_then, slice_get, slice_set, ◌||◌, take, drop, option_map}
 use Rattle.std.specs.Fmt.{decimal}
 use Rattle.std.proofs.lemmas.Fmt.{decimal_by_steps}
@@ -10,7 +10,6 @@ use Rattle.cell_core.specs.Packed.{Packed, packed_of}
 use Rattle.base_core.specs.Base.{Base, Held}
 use Rattle.base_core.specs.Edits.{added, deleted, held_of, marked, undeleted}
 use Rattle.command_runs.specs.Plain.{after_all}
-use Rattle.demo_games.specs.Demo.{Made, demo_game}
 use Rattle.eco_class.specs.Reading.{table_of}
 use Rattle.eco_class.specs.Table.{Opening}
 use Rattle.eco_class.specs.declared.fault.EcoFault.{EcoFault}
@@ -20,19 +19,18 @@ use Rattle.game_tree.specs.declared.head.Head.{Head}
 use Rattle.game_tree.specs.declared.tag_edit.TagEdit.{TagEdit}
 use Rattle.pgn_read.specs.Items.{items_of}
 use Rattle.pgn_read.specs.declared.item.Item.{Item}
-use Rattle.pgn_read.specs.declared.item.Item.TheVariants.{Bad, Good}
 use Rattle.script_text.specs.Tasks.{Order, Task}
 use Rattle.script_text.specs.declared.command.Command.{Command}
-use Rattle.script_text.specs.declared.command.Command.TheVariants.{Nothing, Find, SearchPosition, SearchMaterial, SearchHeader, Reset, Clear, Negate, Restrict, Keep, Take, And, Or, Drop, Hits, List as Listing, Show, Export, Import, Replace, Eco, Tag, Delete, Undelete, Mark, Tree, Watch, View, Unwatch, Cross, Twins, Index, Save, Info, Demo, Quit, Compact}
+use Rattle.script_text.specs.declared.command.Command.TheVariants.{Find, SearchPosition, SearchMaterial, SearchHeader, Reset, Clear, Negate, Restrict, Keep, Take, And, Or, Drop, Import, Replace, Eco, Tag, Delete, Undelete, Mark, Watch, Unwatch, Twins, Index, Save, Demo, Compact}
 use Rattle.edit_commands.specs.Compacting.{compacted_line, compacted_state, is_within}
 use Rattle.edit_commands.proofs.TagLaws.{tag_line_there, tagged_there, unless_refused}
 use Rattle.edit_commands.proofs.EditLaws.{edited_there, line_there}
 use Rattle.filter_seat.specs.SavedFilters.{dropped_in, is_kept, joined_with, kept_at, place_of}
-use Rattle.search_commands.proofs.DemoLaws.{unless_said, unless_shown, unless_ended, unless_refusal}
-use Rattle.search_commands.specs.Demo.{Adding, adding, one_more}
-use Rattle.intake_commands.specs.Importing.{Intake, intake, item_after, line_with, none_taken, state_with, the_new}
-use Rattle.intake_commands.proofs.ByCase.{unless_not_added}
+use Rattle.search_commands.proofs.DemoLaws.{unless_said, unless_shown}
+use Rattle.search_commands.specs.Demo.{adding}
+use Rattle.intake_commands.specs.Importing.{intake, line_with, none_taken, state_with, the_new}
 use Rattle.report_commands.specs.Classifying.{state_by, text_by}
+use Rattle.shell_commands.proofs.GrowLaws.{adding_keeps, items_keep}
 use Rattle.shell_commands.specs.Refused.{IsError}
 use Rattle.shell_commands.specs.Tasks.{command_work, order_work, tasks}
 use Rattle.game_filter.proofs.Searches.{length-searched}
@@ -43,7 +41,7 @@ use Rattle.index_commands.specs.Indexing.{index_line, is_too_big, too_big_line}
 use Rattle.pos_index.specs.Hits.{entries_of}
 use Rattle.shell_state.specs.Stands.{index_of}
 use Rattle.shell_state.specs.Lines.{game_line, filter_line, hit_lines, hits_text, name_line, no_filter_line, line_of}
-use Rattle.shell_state.specs.Refusing.{not_added, refusal_line, refusal_of}
+use Rattle.shell_state.specs.Refusing.{refusal_line, refusal_of}
 use Rattle.shell_state.specs.Slots.{Slot, slot_at}
 use Rattle.shell_state.specs.Slots.Slot.{empty, idle, shows}
 use Rattle.shell_state.specs.State.{State, with_filter, with_game, with_seat, games_of, with_index}
@@ -177,7 +175,6 @@ unwatch_refused w s number (shows board) same is = absurd (not_error 117 _ refl 
 
 command_refused : (w : Window) (s : State) (command : Command) (body : List ℕ) → length s.seat.filter < 2 ^ 64 → IsError ((command_work w command body).text s) → ((word : List ℕ) → command ≡ Import word → ⊥)
     → ((seed games : ℕ) → command ≡ Demo seed games → ⊥) → (command_work w command body).after s ≡ s
-command_refused w s Nothing body few is imports makes = refl
 command_refused w s (Find board side) body few is imports makes = absurd (found_so s (find_after s board side).seat.filter (rw (length-searched Ignore _ s.seat.filter) few) is)
 command_refused w s (SearchPosition op query) body few is imports makes = absurd (not_error 102 _ refl is)
 command_refused w s (SearchMaterial op query) body few is imports makes = absurd (not_error 102 _ refl is)
@@ -191,10 +188,6 @@ command_refused w s (Take name) body few is imports makes = joined_so (place_of 
 command_refused w s (And name) body few is imports makes = joined_so (place_of s.seat.saved name) intersection s name is
 command_refused w s (Or name) body few is imports makes = joined_so (place_of s.seat.saved name) union s name is
 command_refused w s (Drop name) body few is imports makes = dropped-so s name is
-command_refused w s Hits body few is imports makes = refl
-command_refused w s Listing body few is imports makes = refl
-command_refused w s (Show game) body few is imports makes = refl
-command_refused w s Export body few is imports makes = refl
 command_refused w s (Import word) body few is imports makes = absurd (imports word refl)
 command_refused w s (Replace game word) body few is imports makes = replaced_so s game (the_new s game body) is
 command_refused w s (Eco word) body few is imports makes = classified_so s (table_of body) is
@@ -202,19 +195,15 @@ command_refused w s (Tag game edit) body few is imports makes = tagged_so game e
 command_refused w s (Delete game) body few is imports makes = edited_so 100 (codes "eleted ") (deleted game) game s (slice_get s.shared.base.games game) refl is
 command_refused w s (Undelete game) body few is imports makes = edited_so 117 (codes "ndeleted ") (undeleted game) game s (slice_get s.shared.base.games game) refl is
 command_refused w s (Mark game bit on) body few is imports makes = edited_so 109 (codes "arked ") (marked game bit on) game s (slice_get s.shared.base.games game) refl is
-command_refused w s (Tree board side) body few is imports makes = refl
 command_refused w s (Watch slot board side) body few is imports makes = watch_refused w s slot (packed_of board side) (own_slot w s slot) refl is
-command_refused w s (View slot) body few is imports makes = refl
 command_refused w s (Unwatch slot) body few is imports makes = unwatch_refused w s slot (own_slot w s slot) refl is
-command_refused w s (Cross event) body few is imports makes = refl
 command_refused w s (Twins depth) body few is imports makes = absurd (not_error 116 _ refl is)
 command_refused w s (Index (Some depth)) body few is imports makes = indexed_so (is_too_big s depth) s depth is
 command_refused w s (Index None) body few is imports makes = absurd (not_error 105 _ refl is)
 command_refused w s Save body few is imports makes = absurd (not_error 115 _ refl is)
-command_refused w s Info body few is imports makes = refl
 command_refused w s (Demo seed games) body few is imports makes = absurd (makes seed games refl)
-command_refused w s Quit body few is imports makes = refl
 command_refused w s Compact body few is imports makes = compacted_so (is_within s.shared.base) s is
+command_refused w s _ body few is imports makes = refl
 
 order_refused : (w : Window) (s : State) (order : Order) (body : List ℕ) → length s.seat.filter < 2 ^ 64 → IsError ((order_work w order body).text s) → ((word : List ℕ) → order ≡ Ok (Import word) → ⊥)
     → ((seed games : ℕ) → order ≡ Ok (Demo seed games) → ⊥) → (order_work w order body).after s ≡ s
@@ -257,33 +246,17 @@ one_there held none = cc
 one_added : (s : State) (head : Head) (game : GameTree) → Adds s (with_game s head game)
 one_added s head game = record { more = held_of head game ∷ []; is = added_games head game s.shared.base; still = λ none. absurd (one_there (held_of head game) none) }
 
-item_by : (why : Option Refusal) (i : Intake) (head : Head) (game : GameTree) → Adds i.state (unless_not_added why i head game).state
-item_by (Some why) i head game = none_added i.state
-item_by None i head game = one_added i.state head game
+behind : (s t : State) (head : Head) (game : GameTree) → Adds s t → Adds s (with_game t head game)
+behind s t head game first = adds_on s t (with_game t head game) first (one_added t head game)
 
-item_adds : (i : Intake) (item : Item) → Adds i.state (item_after i item).state
-item_adds i (Good head game) = item_by (not_added i.state.shared head game) i head game
-item_adds i (Bad fault) = none_added i.state
-
-items_add : (i : Intake) (items : List Item) → Adds i.state (after_all intake i items).state
-items_add i [] = none_added i.state
-items_add i (item ∷ items) = adds_on i.state (item_after i item).state (after_all intake (item_after i item) items).state (item_adds i item) (items_add (item_after i item) items)
-
-pub imported : (w : Window) (s : State) (word body : List ℕ) → (more : List Held) × (((tasks w).after s (record { order = Ok (Import word); body = body })).shared.base.games ≡ s.shared.base.games ++ more)
-imported w s word body = let adds = items_add (none_taken s) (items_of body) in (adds.more, adds.is)
-
-made_by : (why : Option Refusal) (a : Adding) (made : Made) → Adds a.state (unless_refusal why a made).state
-made_by (Some why) a made = none_added a.state
-made_by None a made = one_added a.state made.head made.game
-
-one_by : (why : Option Refusal) (a : Adding) (made : Made) → Adds a.state (unless_ended why a made).state
-one_by (Some why) a made = none_added a.state
-one_by None a made = made_by (not_added a.state.shared made.head made.game) a made
+items_add : (s : State) (items : List Item) → Adds s (after_all intake (none_taken s) items).state
+items_add s items = items_keep (Adds s) (behind s) (none_taken s) items (none_added s)
 
 adding_adds : (s : State) (seed games : ℕ) → Adds s (adding s seed games).state
-adding_adds s seed zero = none_added s
-adding_adds s seed (suc games) =
-    adds_on s (adding s seed games).state (one_more (adding s seed games) games).state (adding_adds s seed games) (one_by (adding s seed games).refused (adding s seed games) (demo_game (adding s seed games).number games))
+adding_adds s seed games = adding_keeps (Adds s) (behind s) s seed games (none_added s)
+
+pub imported : (w : Window) (s : State) (word body : List ℕ) → (more : List Held) × (((tasks w).after s (record { order = Ok (Import word); body = body })).shared.base.games ≡ s.shared.base.games ++ more)
+imported w s word body = let adds = items_add s (items_of body) in (adds.more, adds.is)
 
 shown_games : (why : Option Refusal) (s : State) → (unless_shown why s).shared.base.games ≡ s.shared.base.games
 shown_games (Some why) s = refl
@@ -304,7 +277,7 @@ same_then : (s s' : State) → Adds s s' → s'.shared.base.games ≡ s.shared.b
 same_then s s' adds same = adds.still (no_more s.shared.base.games adds.more (sym adds.is ∙ same))
 
 pub imported_none : (w : Window) (s : State) (word body : List ℕ) → ((tasks w).after s (record { order = Ok (Import word); body = body })).shared.base.games ≡ s.shared.base.games → (tasks w).after s (record { order = Ok (Import word); body = body }) ≡ s
-imported_none w s word body same = same_then s (after_all intake (none_taken s) (items_of body)).state (items_add (none_taken s) (items_of body)) same
+imported_none w s word body same = same_then s (after_all intake (none_taken s) (items_of body)).state (items_add s (items_of body)) same
 
 ended_so : (why : Option Refusal) (games plies : ℕ) (s s' : State) → Adds s s' → IsError (unless_said why games plies s') → (unless_shown why s').shared.base.games ≡ s.shared.base.games → unless_shown why s' ≡ s
 ended_so (Some why) games plies s s' adds is same = same_then s s' adds same

@@ -1,17 +1,18 @@
--- Laws of what a command owes a state whose views are shown before its text, or behind it.
+-- Laws of what a command owes a state whose text is written at once, or whose views are shown before its text or behind it.
 use Rattle.std.proofs.Common.{◌≡◌, ℕ, true, false, List, [], Option, Result, Ok, Err, IfOk, OnOk, sym, true≢false, ap, ◌∙◌, subst}
 use Rattle.std.specs.Global.{Vec}
 use Rattle.std.specs.Prelude.{IfErr}
+use Rattle.base_files.proofs.Telling.{adds-nil}
 use Rattle.base_files.specs.Seen.{Seen}
 use Rattle.base_files.specs.Told.{adds}
 use Rattle.base_files.specs.declared.faults.Stop.TheVariants as stop
+use Rattle.cell_core.specs.Board.{Men}
+use Rattle.cell_core.specs.declared.man.Colour.{Colour}
 use Rattle.command_runs.proofs.Joining.{halted_all, halted_none, halted_unsure}
 use Rattle.command_runs.specs.Endings.{Done, Halted, Serves}
 use Rattle.intake_commands.proofs.LastLineLaws.{line_served}
-use Rattle.intake_commands.specs.LastLine.{DoneBut}
+use Rattle.intake_commands.specs.LastLine.{DoneBut, ServesBut}
 use Rattle.search_commands.specs.Searching.{find_work, hits_work}
-use Rattle.cell_core.specs.Board.{Men}
-use Rattle.cell_core.specs.declared.man.Colour.{Colour}
 use Rattle.shell_commands.specs.Saying.{Said}
 use Rattle.shell_state.proofs.Causing.{broken_by_device, broken_by_output}
 use Rattle.shell_state.proofs.Served.{broken_by_body, line_serves}
@@ -20,8 +21,8 @@ use Rattle.shell_state.specs.Ends.{IsBodyFault, IsDevice, IsOutput}
 use Rattle.shell_state.specs.Stands.{Broken, Holding, Quiet, Sound, Stands}
 use Rattle.shell_state.specs.State.{State}
 use Rattle.shell_state.specs.Work.{Work, works}
-use Rattle.shell_state.specs.declared.halt.Halt.{Halt}
 use Rattle.shell_state.specs.declared.halt.Halt.TheVariants as halt
+use Rattle.shell_state.specs.declared.halt.Halt.{Halt}
 
 -- ---- texts behind what is shown
 
@@ -99,3 +100,34 @@ pub body_broken : {A : Type 0} (r : Result A Halt) (s : State) (work : Work) →
     → IfErr r (λ e. (line : List ℕ) (told : Option (List ℕ)) → Broken s work e line told told)
 body_broken (Ok x) s work body files late fault = tt
 body_broken (Err e) s work body files late fault = λ line told. broken_by_body s work e line told told body files (λ is. unfinished_late work.early line told late) fault
+
+-- An edit that gave its line.
+pub line_but : (r : Result (Vec ℕ) Halt) (new : Holding) (work : Work) (seen : Seen) (s : State) (told : Option (List ℕ)) → IfOk r (λ line. line.items ≡ work.text s) → OnOk r (Stands new seen (work.after s))
+    → IfErr r (λ e. (line : List ℕ) (told : Option (List ℕ)) → Broken s work e line told told) → ServesBut works (Stands new seen) Broken s work told told r
+line_but (Ok line) new work seen s told text stands broken = record { stands = stands; front = []; written = sym (adds-nil told); all = text }
+line_but (Err e) new work seen s told text stands broken = record { wrote = halted_none (work.text s) told; broken = broken (work.text s) told }
+
+-- ---- lines of commands that use no file
+
+pub said_by : {A E : Type 0} (answer : Result (Vec ℕ) E) (r : Result A Halt) (line : Vec ℕ) (told told' : Option (List ℕ)) → answer ≡ Ok line → OnOk r (told' ≡ adds told line.items) → Halted [] line.items told told' → IfErr r IsOutput
+    → Said answer r told told'
+said_by {A} {E} answer (Ok x) line told told' is written halted output = subst (λ (a : Result (Vec ℕ) E). Said {A = A} {E = E} a (Ok x) told told') (sym is) written
+said_by {A} {E} answer (Err e) line told told' is written halted output = subst (λ (a : Result (Vec ℕ) E). Said {A = A} {E = E} a (Err e) told told') (sym is) (halted, output)
+
+pub quiet_said : {A E : Type 0} (answer : Result (Vec ℕ) E) (r : Result A Halt) (old new : Holding) (work : Work) (seen : Seen) (s : State) (told told' : Option (List ℕ))
+    → IfOk answer (λ line. Quiet old work new line.items) → Said answer r told told' → Stands old seen s → Serves works (Stands new seen) Broken s work told told' r
+quiet_said (Ok line) (Ok x) old new work seen s told told' quiet said st =
+    record { stands = quiet.stands seen s st; written = said ∙ ap (adds told) (quiet.text seen s st) }
+quiet_said (Ok line) (Err e) old new work seen s told told' quiet said st =
+    let P : List ℕ → Type 0 = λ l. Halted [] l told told' in
+    record { wrote = subst P (quiet.text seen s st) said.0; broken = broken_by_output s work e said.1 (work.text s) told told' }
+quiet_said (Err none) (Ok x) old new work seen s told told' quiet said st = absurd said
+quiet_said (Err none) (Err e) old new work seen s told told' quiet said st =
+    let P : Option (List ℕ) → Type 0 = λ t. Halted [] (work.text s) told t in
+    record { wrote = subst P (sym said.0) (halted_none (work.text s) told); broken = broken_by_output s work e said.1 (work.text s) told told' }
+
+pub quiet_said_sound : {A E : Type 0} (answer : Result (Vec ℕ) E) (r : Result A Halt) (old new : Holding) (work : Work) (seen : Seen) (told told' : Option (List ℕ)) → IfOk answer (λ line. Quiet old work new line.items) → Said answer r told told' → Sound old seen
+    → OnOk r (Sound new seen)
+quiet_said_sound (Ok line) (Ok x) old new work seen told told' quiet said sound = quiet_sound old new work line.items seen quiet sound
+quiet_said_sound (Err none) (Ok x) old new work seen told told' quiet said sound = absurd said
+quiet_said_sound answer (Err e) old new work seen told told' quiet said sound = tt

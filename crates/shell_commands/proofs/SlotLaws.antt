@@ -1,5 +1,5 @@
 -- The law that no task but one that watches a slot, or watches it no more, changes what slots show.
-use Rattle.std.proofs.Common.{◌≡◌, ◌+◌, ◌<◌, ℕ, zero, suc, Bool, true, false, nat_lt, length, List, [], ◌∷◌, Option, Some, None, Result, Ok, Err, refl, ap, ◌∙◌, arith}
+use Rattle.std.proofs.Common.{◌≡◌, ◌+◌, ◌<◌, ℕ, Bool, true, false, nat_lt, length, List, [], ◌∷◌, Option, Some, None, Result, Ok, Err, refl, ap, ◌∙◌, arith}
 use Rattle.std.proofs.lemmas.Bool.{le-leb, lt-ltb, ltb-true}
 use Rattle.std.proofs.lemmas.List.{get_or-set_other, length-set}
 use Rattle.std.specs.Prelude.{if◌then◌else◌, slice_get, slice_set}
@@ -7,8 +7,6 @@ use Rattle.base_core.specs.Base.{Base, Held}
 use Rattle.base_core.specs.Edits.{deleted, marked, tagged, undeleted}
 use Rattle.cell_core.specs.Board.{Men}
 use Rattle.cell_core.specs.declared.man.Colour.{Colour}
-use Rattle.command_runs.specs.Plain.{after_all}
-use Rattle.demo_games.specs.Demo.{Made, demo_game}
 use Rattle.eco_class.specs.Reading.{table_of}
 use Rattle.eco_class.specs.Table.{Opening}
 use Rattle.eco_class.specs.declared.fault.EcoFault.{EcoFault}
@@ -20,20 +18,18 @@ use Rattle.game_tree.specs.TagEdit.{edited}
 use Rattle.game_tree.specs.declared.head.Head.{Head}
 use Rattle.game_tree.specs.declared.tag_edit.TagEdit.{TagEdit}
 use Rattle.index_commands.specs.Indexing.{is_too_big}
-use Rattle.search_commands.proofs.DemoLaws.{unless_shown, unless_ended, unless_refusal}
-use Rattle.search_commands.specs.Demo.{Adding, adding}
-use Rattle.intake_commands.specs.Importing.{Intake, intake, item_after, none_taken, state_with, the_new}
-use Rattle.intake_commands.proofs.ByCase.{unless_not_added}
+use Rattle.search_commands.proofs.DemoLaws.{unless_shown}
+use Rattle.search_commands.specs.Demo.{adding}
+use Rattle.intake_commands.specs.Importing.{none_taken, state_with, the_new}
 use Rattle.pgn_read.specs.Items.{items_of}
-use Rattle.pgn_read.specs.declared.item.Item.{Item}
-use Rattle.pgn_read.specs.declared.item.Item.TheVariants.{Bad, Good}
 use Rattle.report_commands.specs.Classifying.{state_by}
 use Rattle.report_commands.specs.Twins.{found_twins, with_deleted}
 use Rattle.script_text.specs.Tasks.{Order, Task}
 use Rattle.script_text.specs.declared.command.Command.{Command}
-use Rattle.script_text.specs.declared.command.Command.TheVariants.{Nothing, Find, SearchPosition, SearchMaterial, SearchHeader, Reset, Clear, Negate, Restrict, Keep, Take, And, Or, Drop, Hits, List as Listing, Show, Export, Import, Replace, Eco, Tag, Delete, Undelete, Mark, Tree, Watch, View, Unwatch, Cross, Twins, Index, Save, Info, Demo, Quit, Compact}
+use Rattle.script_text.specs.declared.command.Command.TheVariants.{Import, Replace, Eco, Tag, Delete, Undelete, Mark, Watch, Unwatch, Twins, Index, Demo, Compact}
+use Rattle.shell_commands.proofs.GrowLaws.{adding_keeps, items_keep}
 use Rattle.shell_commands.specs.Tasks.{command_work, order_work, tasks}
-use Rattle.shell_state.specs.Refusing.{not_added, refusal_of}
+use Rattle.shell_state.specs.Refusing.{refusal_of}
 use Rattle.shell_state.specs.Slots.{Slot, slot_at}
 use Rattle.shell_state.specs.Slots.Slot.{empty}
 use Rattle.shell_state.specs.State.{State, with_index}
@@ -63,31 +59,6 @@ eco_stays s (Err fault) = refl
 
 -- ---- games that come in
 
-item_by : (why : Option Refusal) (i : Intake) (head : Head) (game : GameTree) → (unless_not_added why i head game).state.slots ≡ i.state.slots
-item_by (Some why) i head game = refl
-item_by None i head game = refl
-
-item_stays : (i : Intake) (item : Item) → (item_after i item).state.slots ≡ i.state.slots
-item_stays i (Good head game) = item_by (not_added i.state.shared head game) i head game
-item_stays i (Bad fault) = refl
-
-items_stay : (i : Intake) (items : List Item) → (after_all intake i items).state.slots ≡ i.state.slots
-items_stay i [] = refl
-items_stay i (item ∷ items) = items_stay (item_after i item) items ∙ item_stays i item
-
-made_by : (why : Option Refusal) (a : Adding) (made : Made) → (unless_refusal why a made).state.slots ≡ a.state.slots
-made_by (Some why) a made = refl
-made_by None a made = refl
-
-one_by : (why : Option Refusal) (a : Adding) (made : Made) → (unless_ended why a made).state.slots ≡ a.state.slots
-one_by (Some why) a made = refl
-one_by None a made = made_by (not_added a.state.shared made.head made.game) a made
-
-adding_stays : (s : State) (seed games : ℕ) → (adding s seed games).state.slots ≡ s.slots
-adding_stays s seed zero = refl
-adding_stays s seed (suc games) =
-    one_by (adding s seed games).refused (adding s seed games) (demo_game (adding s seed games).number games) ∙ adding_stays s seed games
-
 shown_stays : (why : Option Refusal) (s : State) → (unless_shown why s).slots ≡ s.slots
 shown_stays (Some why) s = refl
 shown_stays None s = refl
@@ -110,44 +81,21 @@ indexed_stays false s depth = refl
 
 pub command_stays : (w : Window) (s : State) (command : Command) (body : List ℕ) → ((k : ℕ) (board : Men) (side : Colour) → command ≡ Watch k board side → ⊥) → ((k : ℕ) → command ≡ Unwatch k → ⊥)
     → ((command_work w command body).after s).slots ≡ s.slots
-command_stays w s Nothing body watch unwatch = refl
-command_stays w s (Find board side) body watch unwatch = refl
-command_stays w s (SearchPosition op query) body watch unwatch = refl
-command_stays w s (SearchMaterial op query) body watch unwatch = refl
-command_stays w s (SearchHeader op query) body watch unwatch = refl
-command_stays w s Reset body watch unwatch = refl
-command_stays w s Clear body watch unwatch = refl
-command_stays w s Negate body watch unwatch = refl
-command_stays w s (Restrict first last) body watch unwatch = refl
-command_stays w s (Keep name) body watch unwatch = refl
-command_stays w s (Take name) body watch unwatch = refl
-command_stays w s (And name) body watch unwatch = refl
-command_stays w s (Or name) body watch unwatch = refl
-command_stays w s (Drop name) body watch unwatch = refl
-command_stays w s Hits body watch unwatch = refl
-command_stays w s Listing body watch unwatch = refl
-command_stays w s (Show game) body watch unwatch = refl
-command_stays w s Export body watch unwatch = refl
-command_stays w s (Import word) body watch unwatch = items_stay (none_taken s) (items_of body)
+command_stays w s (Import word) body watch unwatch = items_keep (λ (t : State). t.slots ≡ s.slots) (λ t head game is. is) (none_taken s) (items_of body) refl
 command_stays w s (Replace game word) body watch unwatch = replaced_stays s game (the_new s game body)
 command_stays w s (Eco word) body watch unwatch = eco_stays s (table_of body)
 command_stays w s (Tag game edit) body watch unwatch = tag_stays game edit s (slice_get s.shared.base.games game)
 command_stays w s (Delete game) body watch unwatch = edited_stays (deleted game) s (slice_get s.shared.base.games game)
 command_stays w s (Undelete game) body watch unwatch = edited_stays (undeleted game) s (slice_get s.shared.base.games game)
 command_stays w s (Mark game bit on) body watch unwatch = edited_stays (marked game bit on) s (slice_get s.shared.base.games game)
-command_stays w s (Tree board side) body watch unwatch = refl
 command_stays w s (Watch slot board side) body watch unwatch = absurd (watch slot board side refl)
-command_stays w s (View slot) body watch unwatch = refl
 command_stays w s (Unwatch slot) body watch unwatch = absurd (unwatch slot refl)
-command_stays w s (Cross event) body watch unwatch = refl
 command_stays w s (Twins depth) body watch unwatch = twins_stay s (found_twins s depth)
-command_stays w s (Index (Some depth)) body watch unwatch = indexed_stays (is_too_big s depth) s depth
 command_stays w s (Index None) body watch unwatch = refl
-command_stays w s Save body watch unwatch = refl
-command_stays w s Info body watch unwatch = refl
-command_stays w s (Demo seed games) body watch unwatch = shown_stays (adding s seed games).refused (adding s seed games).state ∙ adding_stays s seed games
-command_stays w s Quit body watch unwatch = refl
+command_stays w s (Index (Some depth)) body watch unwatch = indexed_stays (is_too_big s depth) s depth
+command_stays w s (Demo seed games) body watch unwatch = shown_stays (adding s seed games).refused (adding s seed games).state ∙ adding_keeps (λ (t : State). t.slots ≡ s.slots) (λ t head game is. is) s seed games refl
 command_stays w s Compact body watch unwatch = compacted_stays (is_within s.shared.base) s
+command_stays w s _ body watch unwatch = refl
 
 order_stays : (w : Window) (s : State) (order : Order) (body : List ℕ) → ((k : ℕ) (board : Men) (side : Colour) → order ≡ Ok (Watch k board side) → ⊥) → ((k : ℕ) → order ≡ Ok (Unwatch k) → ⊥)
     → ((order_work w order body).after s).slots ≡ s.slots

@@ -4,10 +4,8 @@ use Rattle.std.specs.Prelude.{IfErr, IfSome}
 use Rattle.base_core.specs.Base.{Base}
 use Rattle.base_files.specs.Seen.{Seen}
 use Rattle.command_runs.specs.Endings.{Serves}
-use Rattle.script_text.specs.Tasks.{Order, Task, body_word, task}
-use Rattle.script_text.specs.declared.command.Command.{Command}
-use Rattle.script_text.specs.declared.command.Command.TheVariants.{Compact, Demo, Import, Replace, Eco, Save}
-use Rattle.search_commands.specs.Demo.{demo_price}
+use Rattle.script_text.specs.Tasks.{Order, Task, body_word}
+use Rattle.script_text.specs.declared.command.Command.TheVariants.{Demo, Import, Replace, Eco}
 use Rattle.shell_state.proofs.CarryLaws.{if_err, settled_of}
 use Rattle.shell_state.proofs.PriceLaws.{asked_told}
 use Rattle.shell_state.specs.Carrying.{Settled}
@@ -16,9 +14,6 @@ use Rattle.shell_state.specs.State.{State}
 use Rattle.shell_state.specs.Work.{Look, Price, Work, price_by, works}
 use Rattle.shell_state.specs.Work.Price.{by_looks}
 use Rattle.shell_state.specs.declared.halt.Halt.{Halt}
-use Rattle.shell_commands.specs.Parts.{part_of}
-use Rattle.shell_commands.specs.declared.parts.Part.{Part}
-use Rattle.shell_commands.specs.declared.parts.Part.TheVariants.{Edits, Texts}
 use Rattle.view_commands.specs.Views.{all_slots}
 use Rattle.view_commands.specs.declared.window.Window.{Window}
 use Rattle.shell_commands.specs.Tasks.{BrokenTask, SettledTask, order_left, order_price, command_work, order_work, task_work, tasks}
@@ -43,29 +38,17 @@ asks_so work price holding seen s old new is st asked =
     let here : AsksBy (by_looks price) holding old new = subst P is asked in
     subst Q (sym is) (asked_told price holding seen s old new st here)
 
-pub asked_by : (holding : Holding) (seen : Seen) (s : State) (command : Command) (old new : ℕ) → Stands holding seen s → Asks holding (command_work all_slots command []) old new
-    → ((seed games : ℕ) → command ≡ Demo seed games → new ≤ old + demo_price s seed games) → new ≤ old + order_price s (Ok command)
-asked_by holding seen s (Demo seed games) old new st asked demo = demo seed games refl
-asked_by holding seen s command old new st asked demo = asks_so (command_work all_slots command []) _ holding seen s old new refl st asked
+-- Whether a line makes games: its price is that of the state behind them.
+abbrev pub is_demo : Order → Bool
+is_demo (Ok (Demo seed games)) = true
+is_demo _ = false
 
--- ---- commands that leave a base in the place of the files
+pub asked_by : (holding : Holding) (seen : Seen) (s : State) (order : Order) (old new : ℕ) → is_demo order ≡ false → Stands holding seen s → Asks holding (order_work all_slots order []) old new → new ≤ old + order_price s order
+asked_by holding seen s (Ok (Demo seed games)) old new other st asked = absurd cc
+asked_by holding seen s (Ok command) old new other st asked = asks_so (command_work all_slots command []) _ holding seen s old new refl st asked
+asked_by holding seen s (Err fault) old new other st asked = asks_so (order_work all_slots (Err fault) []) _ holding seen s old new refl st asked
 
--- The parts in which there are any.
-abbrev pub may_leave : Part → Bool
-may_leave Edits = true
-may_leave Texts = true
-may_leave _ = false
-
-none_left : (command : Command) → may_leave (part_of command) ≡ false → order_left (Ok command) ≡ None
-none_left Save still = cc
-none_left Compact still = cc
-none_left _ still = refl
-
-pub still_settled : {A : Type 0} (r : Result A Halt) (w : Window) (seen : Seen) (s : State) (command : Command) (text : List ℕ) (told told' : Option (List ℕ)) → may_leave (part_of command) ≡ false
-    → IfErr r (λ _. SettledTask seen w s (task (Ok command) text) told told')
-still_settled r w seen s command text told told' still =
-    let P : Option (Base → Base) → Type 0 = λ o. IfSome o (λ left. Settled seen ((tasks w).after s (task (Ok command) text)) told told') in
-    if_err r _ (subst P (sym (none_left command still)) tt)
+-- ---- lines that leave a base in the place of the files
 
 settled_so : (left : Option (Base → Base)) (P : Type 0) → P → IfSome left (λ _. P)
 settled_so None P is = tt
@@ -75,6 +58,11 @@ settled_so (Some base) P is = is
 pub task_unsettled : (w : Window) (seen : Seen) (s : State) (t : Task) (told : Option (List ℕ)) → SettledTask seen w s t told told
 task_unsettled w seen s t told = settled_so (order_left t.order) (Settled seen ((tasks w).after s t) told told) (inl refl)
 
--- The state behind it stood before anything was.
-pub task_settled : {A : Type 0} (r : Result A Halt) (w : Window) (holding : Holding) (seen : Seen) (s : State) (t : Task) (told told' : Option (List ℕ)) → Stands holding seen ((tasks w).after s t) → IfErr r (λ _. SettledTask seen w s t told told')
-task_settled r w holding seen s t told told' st = if_err r _ (settled_so (order_left t.order) _ (settled_of holding seen ((tasks w).after s t) told told' st))
+-- The state behind it stood before anything was, if it is one.
+pub task_settled : {A : Type 0} (r : Result A Halt) (w : Window) (holding : Holding) (seen : Seen) (s : State) (t : Task) (told told' : Option (List ℕ)) → IfSome (order_left t.order) (λ left. Stands holding seen ((tasks w).after s t))
+    → IfErr r (λ _. SettledTask seen w s t told told')
+task_settled r w holding seen s t told told' behind = if_err r _ (by (order_left t.order) behind)
+  where
+    by : (left : Option (Base → Base)) → IfSome left (λ _. Stands holding seen ((tasks w).after s t)) → IfSome left (λ _. Settled seen ((tasks w).after s t) told told')
+    by (Some base) st = settled_of holding seen ((tasks w).after s t) told told' st
+    by None st = tt

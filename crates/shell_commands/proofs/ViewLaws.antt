@@ -1,5 +1,5 @@
 -- Laws of views beside the state after a command.
-use Rattle.std.proofs.Common.{◌≡◌, ℕ, ◌+◌, ◌≤◌, Bool, true, false, nat_lt, List, Option, Some, None, Result, Ok, Err, OnOk, length, refl, sym, subst, ap, ◌∙◌, arith, ⊎_elim}
+use Rattle.std.proofs.Common.{◌≡◌, ℕ, ◌+◌, Bool, true, false, nat_lt, List, Option, Some, None, Result, Ok, Err, OnOk, length, refl, sym, subst, ap, ◌∙◌, arith, ⊎_elim}
 use Rattle.std.proofs.lemmas.Bool.{and_parts, cases_lt, eqb-true, le-leb, lt-ltb, ltb-true}
 use Rattle.std.proofs.lemmas.List.{get_or-set_same, get_or_past}
 use Rattle.std.specs.Prelude.{◌||◌, ◌&&◌, ◌==◌, if◌then◌else◌, slice_set}
@@ -8,13 +8,13 @@ use Rattle.cell_core.specs.Packed.{Packed, packed_of}
 use Rattle.cell_core.specs.declared.man.Colour.{Colour}
 use Rattle.script_text.specs.Tasks.{task}
 use Rattle.script_text.specs.declared.command.Command.{Command}
-use Rattle.script_text.specs.declared.command.Command.TheVariants.{Find, SearchPosition, SearchMaterial, Import, Replace, Tag, Watch, Unwatch, Compact}
+use Rattle.script_text.specs.declared.command.Command.TheVariants.{Find, SearchMaterial, SearchPosition, Unwatch, View, Watch}
 use Rattle.script_text.specs.declared.fault.ScriptFault.{ScriptFault}
 use Rattle.shell_commands.proofs.SlotLaws.{command_stays}
 use Rattle.shell_commands.specs.Parts.{part_of}
 use Rattle.shell_commands.specs.Tasks.{command_work}
 use Rattle.shell_commands.specs.Watching.{ViewsDone, touches, watches}
-use Rattle.shell_commands.specs.declared.parts.Part.TheVariants.{Edits, Games, Intake, Lines, Searches, Slots}
+use Rattle.shell_commands.specs.declared.parts.Part.TheVariants.{Edits, Games, Lines, Searches, Slots}
 use Rattle.shell_state.specs.Slots.{Slot, slot_at}
 use Rattle.shell_state.specs.Slots.Slot.{empty, idle, shows}
 use Rattle.shell_state.specs.State.{State}
@@ -45,6 +45,10 @@ watches_none w _ i other = refl
 or_false : (a b : Bool) → (a || b) ≡ false → a ≡ false
 or_false false b is = refl
 or_false true b is = is
+
+or_false_last : (a b : Bool) → (a || b) ≡ false → b ≡ false
+or_false_last false b is = is
+or_false_last true b is = absurd cc
 
 -- ---- views that are told
 
@@ -102,7 +106,7 @@ named_own w number i is =
     let here = eqb-true (w.first + number) i both.1 in
     rw (le-leb w.first i (omega (arith, here)), lt-ltb i (w.first + w.count) (omega (arith, here, less))) refl
 
-not_named : (w : Window) (number i : ℕ) → is_own w i ≡ false → (nat_lt number w.count && (w.first + number == i)) ≡ false
+pub not_named : (w : Window) (number i : ℕ) → is_own w i ≡ false → (nat_lt number w.count && (w.first + number == i)) ≡ false
 not_named w number i other = by (nat_lt number w.count && (w.first + number == i)) refl
   where
     by : (b : Bool) → (nat_lt number w.count && (w.first + number == i)) ≡ b → b ≡ false
@@ -158,9 +162,18 @@ unwatch_done : {B : Type 0} (rows : B → List Row) (told : B → Told) (w : Win
 unwatch_done rows told w s number text before after right counted =
     record { right = right; counted = λ i. told_few told 0 _ (in_slot before i) (in_slot after i) (omega arith) (counted i) }
 
+-- What shows a slot changes nothing.
+pub view_done : {B : Type 0} (rows : B → List Row) (told : B → Told) (w : Window) (s : State) (number : ℕ) (text : List ℕ) (views : List (Option B)) → AreRight rows w s views → ViewsDone rows told w s (task (Ok (View number)) text) views views
+view_done rows told w s number text views right = record { right = right; counted = λ i. told_same told _ (in_slot views i) (in_slot views i) refl }
+
 pub unwatched : {A E B : Type 0} (r : Result A E) (rows : B → List Row) (told : B → Told) (w : Window) (s : State) (number : ℕ) (text : List ℕ) (before after : List (Option B)) → OnOk r (AreRight rows w ((unwatch_work w number).after s) after)
     → OnOk r (AreToldAtMost told (λ i. 0) before after) → OnOk r (ViewsDone rows told w s (task (Ok (Unwatch number)) text) before after)
 unwatched r rows told w s number text before after right counted = on_ok₂ r _ _ _ (λ is most. unwatch_done rows told w s number text before after is most) right counted
+
+-- The slot that a watch shows.
+pub watch_left : {B : Type 0} (w : Window) (s : State) (number : ℕ) (board : Men) (side : Colour) (before after : List (Option B)) → AreLeft (λ i. nat_lt number w.count && (w.first + number == i)) before after
+    → AreLeft (touches w s (Ok (Watch number board side))) before after
+watch_left w s number board side before after left = λ i none. left i (or_false_last (is_own w i && is_shown (slot_at s.slots i)) _ none)
 
 pub unwatch_left : {B : Type 0} (w : Window) (s : State) (number : ℕ) (before after : List (Option B)) → AreLeft (λ i. is_own w i && is_shown (slot_at s.slots i)) before after → AreLeft (touches w s (Ok (Unwatch number))) before after
 unwatch_left w s number before after left = λ i none. left i (or_false (is_own w i && is_shown (slot_at s.slots i)) false none)
@@ -178,16 +191,6 @@ not_games command is slots = cc
 
 pub not_edits : (command : Command) → part_of command ≡ Edits → part_of command ≡ Slots → ⊥
 not_edits command is slots = cc
-
-pub edits_write : (w : Window) (command : Command) (text : List ℕ) → part_of command ≡ Edits → (command_work w command text).writes ≡ true
-edits_write w (Replace game word) text is = refl
-edits_write w (Tag game edit) text is = refl
-edits_write w Compact text is = refl
-edits_write w _ text is = absurd cc
-
-pub is_import : (command : Command) → part_of command ≡ Intake → (word : List ℕ) × (command ≡ Import word)
-is_import (Import word) is = (word, refl)
-is_import _ is = absurd cc
 
 pub searches_late : (w : Window) (command : Command) (text : List ℕ) → part_of command ≡ Searches → (command_work w command text).early ≡ false
 searches_late w (Find board side) text is = refl

@@ -3,3 +3,5 @@ pub mod Tasks
 pub mod Refused
 pub mod Saying
 pub mod Watching
+pub mod Showing
+pub mod Turn

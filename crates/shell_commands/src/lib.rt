@@ -1,10 +1,10 @@
 //! The commands of a script over an open base: which of them a line says, and what it does.
 #![tactic(auto)]
 
+mod answers;
 mod changes;
 mod laws;
 mod lines;
-mod marks;
 mod parts;
 mod saying;
 mod searches;

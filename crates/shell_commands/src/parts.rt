@@ -13,15 +13,15 @@ pub(crate) enum Part {
     Lines,
     /// The filter, by games that it reads.
     Searches,
-    /// It takes the games of its body in.
-    Intake,
-    /// A game or all of them, with the files: its text is one line.
+    /// Games, with the files: its text ends with one line.
     Edits,
     /// It makes games, and adds them.
     Games,
-    /// Games, in what no view shows: their marks and their opening codes.
+    /// A mark of a game or a kept filter, which no view shows: its text is one line.
     Marks,
-    /// Nothing: it writes a text.
+    /// Nothing that a view shows, without the files: its text is made before it is written.
+    Answers,
+    /// Nothing that a view shows: it writes while it reads or saves.
     Texts,
 }
 
@@ -42,14 +42,15 @@ pub(crate) fn part_of(command: &Command) -> Part
         Command::Find(..) | Command::SearchPosition(..) | Command::SearchMaterial(..) => {
             Part::Searches
         }
-        Command::Import(_) => Part::Intake,
-        Command::Replace(..) | Command::Tag(..) | Command::Compact => Part::Edits,
+        Command::Import(_) | Command::Replace(..) | Command::Tag(..) | Command::Compact => {
+            Part::Edits
+        }
         Command::Demo(..) => Part::Games,
-        Command::Delete(_)
-        | Command::Undelete(_)
-        | Command::Mark(..)
-        | Command::Eco(_)
-        | Command::Twins(_) => Part::Marks,
+        Command::Drop(_) | Command::Delete(_) | Command::Undelete(_) | Command::Mark(..) => {
+            Part::Marks
+        }
+        Command::Nothing | Command::Keep(_) | Command::Cross(_) | Command::Info | Command::Quit =>
+            Part::Answers,
         _ => Part::Texts,
     }
 }

@@ -1,5 +1,4 @@
 //! Writing the line of a command that uses no file.
-ghost use Rattle.std.specs.Prelude.{◌≡◌};
 ghost use Rattle.command_runs.specs.Counts.{Causes, counts};
 ghost use Rattle.command_runs.specs.Endings.{NoneLost};
 ghost use Rattle.shell_commands.specs.Saying.{Said};
@@ -10,7 +9,7 @@ use shell_state::{Halt, write_line};
 use std::alloc::AllocError;
 
 // Writes the line, if memory sufficed for it.
-#[tactic(auto, using(crate::proofs::SayLaws::said_by))]
+#[tactic(auto, using(crate::proofs::ShownLaws::said_by))]
 pub(crate) fn say<K: Sink>(out: &mut K, answer: Result<Vec<u8>, AllocError>) -> Result<(), Halt>
     ensures said { Said answer result (K.taken out.old) (K.taken out.new) }
     ensures none_lost { NoneLost (K.taken out.old) (K.taken out.new) }

@@ -1,19 +1,18 @@
 //! The commands that search games which they read, and show in the views of slots what has changed before the text is written.
-ghost use Rattle.std.specs.Prelude.{◌≡◌, ◌+◌, ◌≤◌, ℕ, List, [], Ok, IfErr, OnOk, length};
+ghost use Rattle.std.specs.Prelude.{◌≡◌, ◌+◌, ◌≤◌, ℕ, List, Ok, Option, IfErr, OnOk};
 ghost use Rattle.base_files.specs.Seen.{Seen};
 ghost use Rattle.command_runs.specs.Counts.{Causes, counts};
 ghost use Rattle.command_runs.specs.Endings.{NoneLost, Serves};
-ghost use Rattle.script_text.specs.Sound.{IsSound};
 ghost use Rattle.script_text.specs.Tasks.{task};
-ghost use Rattle.shell_commands.specs.Parts.{part_of};
+ghost use Rattle.shell_commands.specs.Parts.{IsOf, part_of};
 ghost use Rattle.shell_commands.specs.Tasks.{command_work};
-ghost use Rattle.shell_commands.specs.Watching.{ViewsDone, touches};
+ghost use Rattle.shell_commands.specs.Turn.{Kept, Turn, no_views, outside};
 ghost use Rattle.shell_commands.specs.declared.parts.Part.TheVariants.{Searches};
-ghost use Rattle.shell_state.specs.Ends.{IsDevice, Unsaid};
-ghost use Rattle.shell_state.specs.Stands.{Asks, Broken, Sound, Stands, WhyHalt};
+ghost use Rattle.shell_state.specs.Ends.{IsDevice};
+ghost use Rattle.shell_state.specs.Stands.{Broken, Sound, Stands, WhyHalt};
 ghost use Rattle.shell_state.specs.State.{State};
 ghost use Rattle.shell_state.specs.Work.{works};
-ghost use Rattle.view_commands.specs.Views.{AreLeft, AreRight, all_slots, is_own};
+ghost use Rattle.view_commands.specs.Views.{AreRight};
 ghost use Rattle.view_commands.specs.declared.window.Window.{Window as WindowValue};
 
 use crate::showing::show_rows;
@@ -26,7 +25,6 @@ use tree_live::TreeView;
 use view_commands::Window;
 
 // Does what such a command says, and shows it before its text is written.
-#[tactic(auto, using(shell_state::proofs::Causing::unsaid_without, shell_state::proofs::Causing::unsaid_memory))]
 pub(crate) fn serve_search<F: Files, K: Sink>(
     alloc: Global,
     machine: &mut Machine,
@@ -38,19 +36,9 @@ pub(crate) fn serve_search<F: Files, K: Sink>(
 ) -> Result<(), Halt>
     requires room { window.first + window.count ≤ 8 }
     requires sound { Sound machine.old (F.seen files.old) }
-    requires command { IsSound command.now }
-    requires part { part_of command.now ≡ Searches }
-    ensures serves { (s : State) (text : List ℕ) → Stands machine.old (F.seen files.old) s → Serves works (Stands machine.new (F.seen files.new)) Broken s (command_work window command.now text) (K.taken out.old) (K.taken out.new) result }
-    ensures views { (s : State) (text : List ℕ) → Stands machine.old (F.seen files.old) s → AreRight (λ b. rows b) window s views.old → OnOk result (ViewsDone (λ b. rows b) (λ b. told b) window s (task (Ok command.now) text) views.old views.new) }
-    ensures left { (s : State) (text : List ℕ) → Stands machine.old (F.seen files.old) s → AreRight (λ b. rows b) window s views.old → AreLeft (touches window s (Ok command.now)) views.old views.new }
-    ensures others { AreLeft (is_own window) views.old views.new }
-    ensures number { length views.new ≡ length views.old }
-    ensures sound { OnOk result (Sound machine.new (F.seen files.new)) }
-    ensures unchanged { F.seen files.new ≡ F.seen files.old }
-    ensures asks { Asks machine.old (command_work all_slots command.now []) (F.asked files.old) (F.asked files.new) }
-    ensures unsaid { IfErr result (λ e. Unsaid e (K.taken out.old) (K.taken out.new)) }
-    ensures none_lost { NoneLost (K.taken out.old) (K.taken out.new) }
-    ensures causes { Causes WhyHalt result (counts (F.faults files.old) 0 (K.faults out.old)) (counts (F.faults files.new) 0 (K.faults out.new)) }
+    requires command { IsOf Searches command.now }
+    ensures turn { (s : State) (text : List ℕ) → Stands machine.old (F.seen files.old) s → AreRight (λ b. rows b) window s views.old → Turn (λ b. rows b) (λ b. told b) window s (task (Ok command.now) text) machine.new (F.seen files.new) (K.taken out.old) (K.taken out.new) views.old views.new result }
+    ensures kept { Kept window (Ok command.now) machine.old machine.new (outside (F.seen files.old) (F.asked files.old) (K.taken out.old) (counts (F.faults files.old) 0 (K.faults out.old))) (outside (F.seen files.new) (F.asked files.new) (K.taken out.new) (counts (F.faults files.new) 0 (K.faults out.new))) views.old views.new result }
 {
     match search_games(machine, files, command) {
         Ok(()) => {}
@@ -69,14 +57,10 @@ fn search_games<F: Files>(
     command: &Command,
 ) -> Result<(), Halt>
     requires sound { Sound machine.old (F.seen files.old) }
-    requires command { IsSound command.now }
-    requires part { part_of command.now ≡ Searches }
+    requires command { IsOf Searches command.now }
     ensures stands { (w : WindowValue) (s : State) (text : List ℕ) → Stands machine.old (F.seen files.old) s → OnOk result (Stands machine.new (F.seen files.new) ((command_work w command.now text).after s)) }
     ensures devices { (s : State) → Stands machine.old (F.seen files.old) s → IfErr result IsDevice }
-    ensures sound { OnOk result (Sound machine.new (F.seen files.new)) }
-    ensures unchanged { F.seen files.new ≡ F.seen files.old }
-    ensures asks { Asks machine.old (command_work all_slots command.now []) (F.asked files.old) (F.asked files.new) }
-    ensures causes { Causes WhyHalt result (counts (F.faults files.old) 0 0) (counts (F.faults files.new) 0 0) }
+    ensures kept { (w : WindowValue) (taken : Option (List ℕ)) (output : ℕ) → Kept w (Ok command.now) machine.old machine.new (outside (F.seen files.old) (F.asked files.old) taken (counts (F.faults files.old) 0 output)) (outside (F.seen files.new) (F.asked files.new) taken (counts (F.faults files.new) 0 output)) no_views no_views result }
 {
     match command {
         Command::Find(board, side) => find_games(machine, files, board, *side),

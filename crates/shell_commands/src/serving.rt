@@ -2,23 +2,22 @@
 ghost use Rattle.std.specs.Prelude.{◌≡◌, ◌≤◌, ◌+◌, ℕ, List, [], false, Some, Ok, OnOk, IfErr, length};
 ghost use Rattle.command_runs.specs.Counts.{Causes, counts};
 ghost use Rattle.command_runs.specs.Endings.{NoneLost, Serves};
-ghost use Rattle.script_text.specs.Sound.{IsSound, IsSoundLine};
+ghost use Rattle.script_text.specs.Sound.{IsSoundLine};
 ghost use Rattle.script_text.specs.Tasks.{task};
-ghost use Rattle.script_text.specs.declared.command.Command.TheVariants.{Demo, Export};
-ghost use Rattle.search_commands.specs.Demo.{demo_price};
-ghost use Rattle.shell_commands.specs.Tasks.{BrokenTask, command_work, order_left, order_price, order_work, order_writes, SettledTask, tasks, writes_early};
+ghost use Rattle.script_text.specs.declared.command.Command.TheVariants.{Export};
+ghost use Rattle.shell_commands.specs.Tasks.{BrokenTask, order_left, order_price, order_work, order_writes, SettledTask, tasks, writes_early};
+ghost use Rattle.shell_commands.specs.Turn.{Kept, Turn, outside};
 ghost use Rattle.shell_commands.specs.Watching.{ViewsDone, touches};
 ghost use Rattle.shell_state.specs.Carrying.{StillCarry};
 ghost use Rattle.shell_state.specs.Ends.{Unsaid};
-ghost use Rattle.shell_state.specs.Stands.{Asks, Broken, Sound, Stands, WhyHalt};
+ghost use Rattle.shell_state.specs.Stands.{Asks, Sound, Stands, WhyHalt};
 ghost use Rattle.shell_state.specs.State.{State};
-ghost use Rattle.shell_state.specs.Work.{works};
-ghost use Rattle.view_commands.specs.Views.{AreLeft, AreRight, all_slots, is_own};
 ghost use Rattle.text_commands.specs.GameTexts.{ExportCut};
+ghost use Rattle.view_commands.specs.Views.{AreLeft, AreRight, all_slots, is_own};
 
-use crate::changes::{serve_demo, serve_edit, serve_import};
-use crate::lines::serve_line;
-use crate::marks::write_mark;
+use crate::answers::write_answer;
+use crate::changes::{serve_demo, serve_edit};
+use crate::lines::{serve_line, write_mark};
 use crate::parts::{Part, part_of};
 use crate::saying::say;
 use crate::searches::serve_search;
@@ -36,7 +35,6 @@ pub type Order = Result<Command, ScriptFault>;
 
 /// Does what a line of a user's script says, and writes its text. The views of the user's own slots stay right. Nothing
 /// of `body` is read for a line without a body.
-#[tactic(auto, using(shell_state::proofs::Causing::unsaid_without))]
 pub fn serve<F: Files, B: Source, K: Sink>(
     alloc: Global,
     machine: &mut Machine,
@@ -90,53 +88,38 @@ pub fn serve<F: Files, B: Source, K: Sink>(
     ensures none_lost { NoneLost (K.taken out.old) (K.taken out.new) }
     ensures causes { Causes WhyHalt result (counts (F.faults files.old) (B.faults body.old) (K.faults out.old)) (counts (F.faults files.new) (B.faults body.new) (K.faults out.new)) }
 {
-    match order {
-        Ok(command) => serve_command(alloc, machine, views, files, body, out, command, window),
-        Err(fault) => say(out, fault_line(alloc, *fault)),
-    }
+    hand_on(alloc, machine, views, files, body, out, order, window)
 }
 
-// Does what a command says.
-#[tactic(auto, using(shell_state::proofs::Causing::unsaid_without))]
-fn serve_command<F: Files, B: Source, K: Sink>(
+// Hands the line to the part of its command, or writes the line of its fault.
+fn hand_on<F: Files, B: Source, K: Sink>(
     alloc: Global,
     machine: &mut Machine,
     views: &mut [Option<Box<dyn TreeView>>],
     files: &mut F,
     body: &mut B,
     out: &mut K,
-    command: &Command,
+    order: &Order,
     window: Window,
 ) -> Result<(), Halt>
     requires room { window.first + window.count ≤ 8 }
     requires sound { Sound machine.old (F.seen files.old) }
-    requires command { IsSound command.now }
-    ensures serves { (s : State) (text : List ℕ) → Stands machine.old (F.seen files.old) s → B.left body.old ≡ Some text → AreRight (λ b. rows b) window s views.old → Serves works (Stands machine.new (F.seen files.new)) Broken s (command_work window command.now text) (K.taken out.old) (K.taken out.new) result }
-    ensures views { (s : State) (text : List ℕ) → Stands machine.old (F.seen files.old) s → B.left body.old ≡ Some text → AreRight (λ b. rows b) window s views.old → OnOk result (ViewsDone (λ b. rows b) (λ b. told b) window s (task (Ok command.now) text) views.old views.new) }
-    ensures left { (s : State) (text : List ℕ) → Stands machine.old (F.seen files.old) s → B.left body.old ≡ Some text → AreRight (λ b. rows b) window s views.old → AreLeft (touches window s (Ok command.now)) views.old views.new }
-    ensures others { AreLeft (is_own window) views.old views.new }
-    ensures number { length views.new ≡ length views.old }
-    ensures sound { OnOk result (Sound machine.new (F.seen files.new)) }
-    ensures whole { (s : State) → Stands machine.old (F.seen files.old) s → command.now ≡ Export → IfErr result (λ e. ExportCut s.seat.filter s.shared.base.games e (K.taken out.old) (K.taken out.new)) }
-    ensures carries { (s : State) → Stands machine.old (F.seen files.old) s → IfErr result (λ _. StillCarry (F.seen files.new) s (command_work all_slots command.now []).left) }
-    ensures settled { (s : State) (text : List ℕ) → Stands machine.old (F.seen files.old) s → B.left body.old ≡ Some text → IfErr result (λ _. SettledTask (F.seen files.new) window s (task (Ok command.now) text) (K.taken out.old) (K.taken out.new)) }
-    ensures unchanged { (command_work all_slots command.now []).writes ≡ false → F.seen files.new ≡ F.seen files.old }
-    ensures choices { (F.seen files.new).choices ≡ (F.seen files.old).choices }
-    ensures asks { Asks machine.old (command_work all_slots command.now []) (F.asked files.old) (F.asked files.new) }
-    ensures asks_demo { (s : State) (seed games : ℕ) → Stands machine.old (F.seen files.old) s → command.now ≡ Demo seed games → F.asked files.new ≤ F.asked files.old + demo_price s seed games }
+    requires order { IsSoundLine order.now }
+    ensures turn { (s : State) (text : List ℕ) → Stands machine.old (F.seen files.old) s → B.left body.old ≡ Some text → AreRight (λ b. rows b) window s views.old → Turn (λ b. rows b) (λ b. told b) window s (task order.now text) machine.new (F.seen files.new) (K.taken out.old) (K.taken out.new) views.old views.new result }
+    ensures kept { Kept window order.now machine.old machine.new (outside (F.seen files.old) (F.asked files.old) (K.taken out.old) (counts (F.faults files.old) (B.faults body.old) (K.faults out.old))) (outside (F.seen files.new) (F.asked files.new) (K.taken out.new) (counts (F.faults files.new) (B.faults body.new) (K.faults out.new))) views.old views.new result }
     ensures same { B.origin body.new ≡ B.origin body.old }
-    ensures unsaid { writes_early (Ok command.now) ≡ false → IfErr result (λ e. Unsaid e (K.taken out.old) (K.taken out.new)) }
-    ensures none_lost { NoneLost (K.taken out.old) (K.taken out.new) }
-    ensures causes { Causes WhyHalt result (counts (F.faults files.old) (B.faults body.old) (K.faults out.old)) (counts (F.faults files.new) (B.faults body.new) (K.faults out.new)) }
 {
-    match part_of(command) {
-        Part::Slots => serve_slot(alloc, machine, views, files, out, command, window),
-        Part::Lines => serve_line(alloc, machine, views, out, command, window),
-        Part::Searches => serve_search(alloc, machine, views, files, out, command, window),
-        Part::Intake => serve_import(alloc, machine, views, files, body, out, window),
-        Part::Edits => serve_edit(alloc, machine, views, files, body, out, command, window),
-        Part::Games => serve_demo(alloc, machine, views, files, out, command, window),
-        Part::Marks => write_mark(alloc, machine, files, body, out, command),
-        Part::Texts => write_text(alloc, machine, files, out, command),
+    match order {
+        Ok(command) => match part_of(command) {
+            Part::Slots => serve_slot(alloc, machine, views, files, out, command, window),
+            Part::Lines => serve_line(alloc, machine, views, out, command, window),
+            Part::Searches => serve_search(alloc, machine, views, files, out, command, window),
+            Part::Edits => serve_edit(alloc, machine, views, files, body, out, command, window),
+            Part::Games => serve_demo(alloc, machine, views, files, out, command, window),
+            Part::Marks => write_mark(machine, out, command),
+            Part::Answers => write_answer(alloc, machine, out, command),
+            Part::Texts => write_text(alloc, machine, files, body, out, command),
+        },
+        Err(fault) => say(out, fault_line(alloc, *fault)),
     }
 }

@@ -1,16 +1,9 @@
 //! Bringing the views of slots up to date within a command.
-ghost use Rattle.std.specs.Prelude.{◌≡◌, ◌+◌, ◌≤◌, ◌&&◌, ℕ, [], if◌then◌else◌, OnOk, IfErr, length};
-ghost use Rattle.base_files.specs.Seen.{Seen};
-ghost use Rattle.base_files.specs.Told.{adds};
+ghost use Rattle.std.specs.Prelude.{◌≡◌, ◌+◌, ◌≤◌, IfErr};
 ghost use Rattle.base_files.specs.declared.faults.Stop.TheVariants as stop;
-ghost use Rattle.command_runs.specs.Counts.{Causes, counts};
-ghost use Rattle.command_runs.specs.Endings.{Halted, NoneLost};
-ghost use Rattle.shell_state.specs.Ends.{IsOutput};
-ghost use Rattle.shell_state.specs.Slots.{slot_at};
-ghost use Rattle.shell_state.specs.Stands.{Fits, Stands, TablesFit, WhyHalt};
-ghost use Rattle.shell_state.specs.State.{State};
+ghost use Rattle.shell_commands.specs.Saying.{Wrote};
+ghost use Rattle.shell_commands.specs.Showing.{AllFit, Updated};
 ghost use Rattle.shell_state.specs.declared.halt.Halt.TheVariants as halt;
-ghost use Rattle.view_commands.specs.Views.{AreLeft, AreRight, AreToldAtMost, changes_of, is_own, is_shown};
 
 use base_files::{Sink, Stop};
 use shell_state::{Halt, Machine, write_line};
@@ -26,14 +19,8 @@ pub(crate) fn show_rows(
     window: Window,
 ) -> Result<(), Halt>
     requires room { window.first + window.count ≤ 8 }
-    requires fits { Fits machine.old }
-    requires tables { TablesFit machine.old }
-    ensures same { OnOk result (machine.new ≡ machine.old) }
-    ensures right { (seen : Seen) (earlier s : State) → Stands machine.old seen s → s.slots ≡ earlier.slots → AreRight (λ b. rows b) window earlier views.old → OnOk result (AreRight (λ b. rows b) window s views.new) }
-    ensures told { (seen : Seen) (earlier s : State) → Stands machine.old seen s → s.slots ≡ earlier.slots → AreRight (λ b. rows b) window earlier views.old → OnOk result (AreToldAtMost (λ b. told b) (λ i. if is_own window i then changes_of earlier s (slot_at s.slots i) else 0) views.old views.new) }
-    ensures left { (seen : Seen) (s : State) → Stands machine.old seen s → AreLeft (λ i. is_own window i && is_shown (slot_at s.slots i)) views.old views.new }
-    ensures others { AreLeft (is_own window) views.old views.new }
-    ensures number { length views.new ≡ length views.old }
+    requires fits { AllFit machine.old }
+    ensures updated { Updated (λ b. rows b) (λ b. told b) window machine.old machine.new views.old views.new result }
     ensures memory { IfErr result (λ e. e ≡ halt.Device stop.Memory) }
 {
     match show(alloc, machine, views, window) {
@@ -52,19 +39,9 @@ pub(crate) fn show_line<K: Sink>(
     window: Window,
 ) -> Result<(), Halt>
     requires room { window.first + window.count ≤ 8 }
-    requires fits { Fits machine.old }
-    requires tables { TablesFit machine.old }
-    ensures same { OnOk result (machine.new ≡ machine.old) }
-    ensures right { (seen : Seen) (earlier s : State) → Stands machine.old seen s → s.slots ≡ earlier.slots → AreRight (λ b. rows b) window earlier views.old → OnOk result (AreRight (λ b. rows b) window s views.new) }
-    ensures told { (seen : Seen) (earlier s : State) → Stands machine.old seen s → s.slots ≡ earlier.slots → AreRight (λ b. rows b) window earlier views.old → OnOk result (AreToldAtMost (λ b. told b) (λ i. if is_own window i then changes_of earlier s (slot_at s.slots i) else 0) views.old views.new) }
-    ensures left { (seen : Seen) (s : State) → Stands machine.old seen s → AreLeft (λ i. is_own window i && is_shown (slot_at s.slots i)) views.old views.new }
-    ensures others { AreLeft (is_own window) views.old views.new }
-    ensures number { length views.new ≡ length views.old }
-    ensures written { OnOk result (K.taken out.new ≡ adds (K.taken out.old) line.now) }
-    ensures halted { Halted [] line.now (K.taken out.old) (K.taken out.new) }
-    ensures output { IfErr result IsOutput }
-    ensures none_lost { NoneLost (K.taken out.old) (K.taken out.new) }
-    ensures causes { Causes WhyHalt result (counts 0 0 (K.faults out.old)) (counts 0 0 (K.faults out.new)) }
+    requires fits { AllFit machine.old }
+    ensures updated { Updated (λ b. rows b) (λ b. told b) window machine.old machine.new views.old views.new result }
+    ensures wrote { Wrote line.now (K.taken out.old) (K.taken out.new) (K.faults out.old) (K.faults out.new) result }
 {
     match show_rows(alloc, machine, views, window) {
         Ok(()) => write_line(out, line),

@@ -62,8 +62,7 @@ begun given opened = desk_begin opened.wanted.desk (is_created opened.wanted.cre
 
 -- The words name a base whose files have this first fault.
 abbrev pub Faulty : Given → BaseFault → Type 0
-Faulty given fault =
-    IsSomeAnd (words_read given.words) (λ wanted. Refuses wanted.create wanted.strict given.index given.names given.games fault)
+Faulty given fault = IsSomeAnd (words_read given.words) (λ wanted. Refuses wanted.create wanted.strict given.index given.names given.games fault)
 
 -- `base G games M mended`
 abbrev pub opening_text : ℕ → ℕ → List ℕ
@@ -84,8 +83,7 @@ pub record RanAll (d : Desk) (script : List ℕ) (told : Option (List ℕ)) (tol
   pub enough : script_len d.clients.tagged script ≤ length front
   pub no_further : length front ≤ script_len d.clients.tagged script + piece_len
   pub files : AreLeft around'.seen (after_all desks d (script_of d.clients.tagged script)).shared.carried (after_all desks d (script_of d.clients.tagged script)).shared.unsaved
-  pub views :
-      AreBeside (record around' { most = λ k. around'.most k + summed (λ d next. line_told d next k) d (script_of d.clients.tagged script) })
+  pub views : AreBeside (record around' { most = λ k. around'.most k + summed (λ d next. line_told d next k) d (script_of d.clients.tagged script) })
       (after_all desks d (script_of d.clients.tagged script))
 
 -- What is known of the line that a status breaks off. The files fail only at a line that uses them. Nothing of its text
@@ -104,8 +102,7 @@ BrokenBy _ d next told told' = ⊤
 pub record Breaks (status : Status) (around' : Around) (told' : Option (List ℕ)) (d : Desk) (next : Tagged) (told : Option (List ℕ)) : Type 0 where
   pub broken : BrokenBy status d next told told'
   pub carries : StillCarry around'.seen (seen_by d 0) (line_left d (said next.client next.task.order))
-  pub settled :
-      IfSome (line_left d (said next.client next.task.order)) (λ left. Settled around'.seen (seen_by (desks.after d next) 0) told told')
+  pub settled : IfSome (line_left d (said next.client next.task.order)) (λ left. Settled around'.seen (seen_by (desks.after d next) 0) told told')
   pub views : AreLeftBy around' d (said next.client next.task.order)
 
 -- The lines that are done. At a fault of the input they are those that were read with their line feed, and at a script

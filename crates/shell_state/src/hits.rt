@@ -1,8 +1,9 @@
 //! What trees count of games: of one that comes in, for each slot that shows a tree, and of one that is there.
-ghost use Rattle.std.specs.Prelude.{◌≡◌, ◌≤◌, ◌<◌, ◌+◌, ℕ, if◌then◌else◌, List, Option, Some, length, map, option_and_then, option_copied, slice_get, IfErr, IfOk, IfSome, OnOk};
+ghost use Rattle.std.specs.Prelude.{◌≡◌, ◌≤◌, ◌<◌, ◌+◌, ℕ, if◌then◌else◌, List, Option, Some, length, map, option_and_then, option_map, slice_get, IfErr, IfOk, IfSome, OnOk};
 ghost use Rattle.base_core.specs.Base.{Base as PlainBase, Held};
 ghost use Rattle.base_core.specs.Represents.{IsSound, Represents, extents_of, heads_of, sigs_of};
 ghost use Rattle.base_files.specs.Counters.{raised};
+ghost use Rattle.cell_core.specs.Packed.{packed_of};
 ghost use Rattle.command_runs.specs.Counts.{Causes, counts};
 ghost use Rattle.game_tree.specs.Legal.{IsLegalGame};
 ghost use Rattle.pos_index.specs.Hits.{Index, IndexesAll, Place, places_in, rows_told};
@@ -21,7 +22,7 @@ ghost use Rattle.shell_state.specs.Stands.{WhyHalt};
 use crate::halt::Halt;
 use base_core::Base;
 use base_files::Files;
-use cell_core::{Colour, Move, PackedBoard, unpack};
+use cell_core::{Board, Colour, Move};
 use game_tree::{Game, Head};
 use pos_search::{Sought, Told, hit_sought, next_in};
 use sig_index::Games;
@@ -35,25 +36,34 @@ pub fn hits_of(slots: &Slots, head: &Head, game: &Game) -> [Option<GameHit>; 8]
     ensures hits { AreHits slots.now.watches head.now game.now result }
 {
     [
-        hit_for(slots.watched(0), head, game),
-        hit_for(slots.watched(1), head, game),
-        hit_for(slots.watched(2), head, game),
-        hit_for(slots.watched(3), head, game),
-        hit_for(slots.watched(4), head, game),
-        hit_for(slots.watched(5), head, game),
-        hit_for(slots.watched(6), head, game),
-        hit_for(slots.watched(7), head, game),
+        hit_for(slots.men(0), head, game),
+        hit_for(slots.men(1), head, game),
+        hit_for(slots.men(2), head, game),
+        hit_for(slots.men(3), head, game),
+        hit_for(slots.men(4), head, game),
+        hit_for(slots.men(5), head, game),
+        hit_for(slots.men(6), head, game),
+        hit_for(slots.men(7), head, game),
     ]
 }
 
-// The hit of a game on a board, if there is one to be met and the game meets it.
-fn hit_for(board: Option<&PackedBoard>, head: &Head, game: &Game) -> Option<GameHit>
+// The hit of a game on a board and side, if there is one to be met and the game meets it.
+fn hit_for(shown: Option<(&Board, Colour)>, head: &Head, game: &Game) -> Option<GameHit>
     requires legal { IsLegalGame game.now }
-    ensures hit { result ≡ option_and_then (hit_on head.now game.now) (option_copied board.entry) }
+    ensures hit { result ≡ option_and_then (hit_on head.now game.now) (option_map (λ board. packed_of board.0.now board.1) shown.entry) }
 {
-    let board = board?;
-    let (_, side) = unpack(board);
-    let next = next_in(board, game)?;
+    let (board, side) = shown?;
+    hit_on(board, side, head, game)
+}
+
+// The hit of a game on a board, if the game meets it.
+fn hit_on(board: &Board, side: Colour, head: &Head, game: &Game) -> Option<GameHit>
+    requires legal { IsLegalGame game.now }
+    ensures hit { result ≡ hit_on head.now game.now (packed_of board.now side) }
+{
+    // A board has 64 squares.
+    let _cells = board.cells();
+    let next = next_in(board, side, game)?;
     Some(GameHit::of(
         next,
         side,

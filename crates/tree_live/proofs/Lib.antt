@@ -1,3 +1,4 @@
+pub mod BlockLaws
 mod ViewLaws
 pub mod TellingLaws
 mod HitLaws

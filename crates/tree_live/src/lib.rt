@@ -2,7 +2,9 @@
 //! view is told row by row, with each change or later by one call.
 #![tactic(auto)]
 
+mod blocks;
 mod change;
+mod counting;
 mod entry;
 mod following;
 mod laws;

@@ -5,7 +5,7 @@ use crate::showing::show_all;
 use crate::slot::attach;
 use crate::view::TreeView;
 use crate::watch::Watch;
-use cell_core::PackedBoard;
+use cell_core::{Board, Colour, PackedBoard};
 use game_filter::{Filter, Renumbering};
 use std::alloc::{AllocError, Global};
 use std::marker::Model;
@@ -38,6 +38,7 @@ impl Model for Slots {
 
 impl Slots {
     ghost use Rattle.std.specs.Prelude.{◌≡◌, ◌+◌, ◌<◌, ◌≤◌, ◌&&◌, ℕ, false, Some, None, nat_lt, if◌then◌else◌, is_some, length, option_copied, option_map, replicate, slice_set, IfSome, IsSome, OnOk, OnErr, MatchResult};
+    ghost use Rattle.cell_core.specs.Packed.{packed_of};
     ghost use Rattle.game_filter.specs.Renumbering.{renumbered};
     ghost use Rattle.tree_live.specs.Watching.{all_changes, all_out, hits_in, staying, under, with_game};
     ghost use Rattle.tree_live.specs.Slots.{AreBelow, AreChanged, AreShown, AreShownIf, AreTold, AreToldRows, EachWatch, Fits, IsShown, IsTold, changed, in_slot, is_within, kept_hit, most_told};
@@ -77,6 +78,22 @@ impl Slots {
         match &watches[place] {
             None => None,
             Some(watch) => Some(watch.board()),
+        }
+    }
+
+    /// The men and the side to move of that board.
+    pub fn men(&self, k: u8) -> Option<(&Board, Colour)>
+        ensures board { option_map (λ shown. packed_of shown.0.now shown.1) result ≡ option_map (λ watch. watch.board) (in_slot self.now.watches k) }
+        ensures below { AreBelow self.now.count self.now.watches }
+    {
+        let watches = self.watches.as_slice();
+        let place = usize::from(k);
+        if place >= watches.len() {
+            return None;
+        }
+        match &watches[place] {
+            None => None,
+            Some(watch) => Some(watch.men()),
         }
     }
 

@@ -1,4 +1,5 @@
 use Rattle.std.proofs.Common.{◌≡◌, ℕ, List, length, rules, sym, ap, ◌∙◌, subst}
+use Rattle.std.proofs.lemmas.Result.{err_from_is_err_and}
 use Rattle.base_files.specs.Seen.{committed}
 use Rattle.block_store.specs.Placing.{IsEnd}
 use Rattle.base_core.specs.Represents.{Kept}
@@ -67,3 +68,16 @@ returns-clause-at_end g c =
     subst (λ (k : Kept). IsEnd k.end (g.F.Files.seen c.write_files.new.files)) (sym c.adopt.ensures.adopted)
     (ends-there c.args.base.now c.in_ok-draft.draft (g.F.Files.seen c.args.files.now) c.in_default.ensures.written.copied_to (g.F.Files.seen c.write_files.new.files)
     c.in_ok-names.index.items c.in_ok-names.names.items c.in_ok-draft.ensures.drafted c.in_default.ensures.written.copied is)
+
+-- Want of memory says nothing.
+pub returns-in_err-names-clause-why : goal.returns-in_err-names-clause-why
+returns-in_err-names-clause-why g c =
+    let p = err_from_is_err_and c.from_residual-in_err-names.result c.from_residual-in_err-names.ensures.1 in rw (p.1, p.2) tt
+
+pub returns-in_err-names-clause-same : goal.returns-in_err-names-clause-same
+returns-in_err-names-clause-same g c =
+    let p = err_from_is_err_and c.from_residual-in_err-names.result c.from_residual-in_err-names.ensures.1 in rw (p.1, p.2) tt
+
+pub returns-in_err-names-clause-cause : goal.returns-in_err-names-clause-cause
+returns-in_err-names-clause-cause g c =
+    let p = err_from_is_err_and c.from_residual-in_err-names.result c.from_residual-in_err-names.ensures.1 in rw (p.1, p.2) (λ is. cc)

@@ -8,7 +8,6 @@ pub loop-i-init : goal.loop-i-init
 loop-i-init c = record {
   within = omega arith;
   drafted = subst (λ (k : Kept). HasFirst 0 c.args.base.now k) (sym c.new-draft.ensures.empty) (has-none c.args.base.now);
-  numbers = c.new-renumbering.ensures;
 }
 
 pub returns-in_err-draft_game-clause-why : goal.returns-in_err-draft_game-clause-why

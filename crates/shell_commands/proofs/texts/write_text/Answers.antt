@@ -1,73 +1,56 @@
-use Rattle.std.proofs.Common.{ℕ, List, sym, subst}
-use Rattle.filter_commands.specs.Filters.{drop_work}
-use Rattle.shell_commands.proofs.SayLaws.{quiet_said}
+use Rattle.std.proofs.Common.{refl}
+use Rattle.shell_commands.proofs.TurnLaws.{asks_same, causes_beside, kept_edits, kept_files, kept_reads, kept_room, kept_writes, save_carries, sound_still}
 use Rattle.shell_commands.proofs.texts.write_text.Goals as goal
-use Rattle.shell_state.proofs.CarryLaws.{carry_of, carry_same, if_err}
-use Rattle.shell_state.proofs.Served.{quiet_serves}
-use Rattle.shell_state.specs.Stands.{Quiet}
+use Rattle.shell_state.proofs.Served.{on_ok}
+use Rattle.shell_state.specs.Work.Price.{by_looks}
 
-pub returns-in-Nothing-clause-carries : goal.returns-in-Nothing-clause-carries
-returns-in-Nothing-clause-carries g c = λ s st. if_err c.say.result _ (carry_of c.args.machine.now (g.F.Files.seen c.args.files.now) s _ st)
+pub returns-in-Hits-clause-kept : goal.returns-in-Hits-clause-kept
+returns-in-Hits-clause-kept g c = λ w.
+    rw c.in-Hits.is
+    (kept_writes _ _ _ _ _ _ _ _ refl refl (λ is. cc) (λ i other. refl) refl (on_ok _ c.hits.result (sound_still _ _ _ _ c.hits.ensures.same refl c.requires.sound)) c.hits.ensures.none_lost c.hits.ensures.causes)
 
-pub returns-in-Keep-clause-serves : goal.returns-in-Keep-clause-serves
-returns-in-Keep-clause-serves g c = λ w s text st.
-    rw c.in-Keep.is (quiet_said c.keep_filter.result c.say-in-Keep.result c.args.machine.now c.keep_filter.new.machine _ (g.F.Files.seen c.args.files.now) s _ _ c.keep_filter.ensures.quiet c.say-in-Keep.ensures.said st)
+pub returns-in-List-clause-kept : goal.returns-in-List-clause-kept
+returns-in-List-clause-kept g c = λ w.
+    rw c.in-List.is
+    (kept_writes _ _ _ _ _ _ _ _ refl refl (λ is. cc) (λ i other. refl) refl (on_ok _ c.list.result (sound_still _ _ _ _ c.list.ensures.same refl c.requires.sound)) c.list.ensures.none_lost c.list.ensures.causes)
 
-pub returns-in-Keep-clause-carries : goal.returns-in-Keep-clause-carries
-returns-in-Keep-clause-carries g c = λ s st. if_err c.say-in-Keep.result _ (carry_of c.args.machine.now (g.F.Files.seen c.args.files.now) s _ st)
+pub returns-in-Show-clause-kept : goal.returns-in-Show-clause-kept
+returns-in-Show-clause-kept g c = λ w.
+    rw c.in-Show.is
+    (kept_room refl refl (λ is. cc) (on_ok _ c.show.result (sound_still _ _ _ _ c.show.ensures.same c.show.ensures.unchanged c.requires.sound)) c.show.ensures.unchanged c.show.ensures.unsaid c.show.ensures.asks c.show.ensures.none_lost c.show.ensures.causes)
 
-pub returns-in-Drop-clause-serves : goal.returns-in-Drop-clause-serves
-returns-in-Drop-clause-serves g c = λ w s text st.
-    let P : List ℕ → Type 0 = λ line. Quiet c.args.machine.now (drop_work c.in-Drop.name) c.drop_filter.new.machine line in
-    rw c.in-Drop.is
-    (quiet_serves c.write_line.result c.args.machine.now c.drop_filter.new.machine _ c.as_slice.result.now (g.F.Files.seen c.args.files.now) s _ _
-    (subst P (sym c.as_slice.ensures.value) c.drop_filter.ensures.quiet) st c.write_line.ensures.written c.write_line.ensures.halted c.write_line.ensures.output)
+pub returns-in-Export-clause-kept : goal.returns-in-Export-clause-kept
+returns-in-Export-clause-kept g c = λ w.
+    rw c.in-Export.is
+    (kept_files refl refl (λ s st is. c.export.ensures.cut s st) (λ i other. refl) refl (on_ok _ c.export.result (sound_still _ _ _ _ c.export.ensures.same c.export.ensures.unchanged c.requires.sound)) c.export.ensures.unchanged (λ late. absurd cc)
+    c.export.ensures.asks c.export.ensures.none_lost (causes_beside c.export.result _ _ _ _ _ c.export.ensures.causes))
 
-pub returns-in-Drop-clause-carries : goal.returns-in-Drop-clause-carries
-returns-in-Drop-clause-carries g c = λ s st. if_err c.write_line.result _ (carry_of c.args.machine.now (g.F.Files.seen c.args.files.now) s _ st)
+pub returns-in-Tree-clause-kept : goal.returns-in-Tree-clause-kept
+returns-in-Tree-clause-kept g c = λ w.
+    rw c.in-Tree.is
+    (kept_room refl refl (λ is. cc) (on_ok _ c.tree.result (sound_still _ _ _ _ c.tree.ensures.same c.tree.ensures.unchanged c.requires.sound)) c.tree.ensures.unchanged c.tree.ensures.unsaid c.tree.ensures.asks c.tree.ensures.none_lost c.tree.ensures.causes)
 
-pub returns-in-Cross-clause-serves : goal.returns-in-Cross-clause-serves
-returns-in-Cross-clause-serves g c = λ w s text st.
-    rw c.in-Cross.is (quiet_said c.cross.result c.say-in-Cross.result c.args.machine.now c.args.machine.now _ (g.F.Files.seen c.args.files.now) s _ _ c.cross.ensures.quiet c.say-in-Cross.ensures.said st)
+pub returns-in-Eco-clause-serves : goal.returns-in-Eco-clause-serves
+returns-in-Eco-clause-serves g c = λ w s text st told. rw c.in-Eco.is (c.eco.ensures.serves s text st told)
 
-pub returns-in-Cross-clause-carries : goal.returns-in-Cross-clause-carries
-returns-in-Cross-clause-carries g c = λ s st. if_err c.say-in-Cross.result _ (carry_of c.args.machine.now (g.F.Files.seen c.args.files.now) s _ st)
+pub returns-in-Eco-clause-kept : goal.returns-in-Eco-clause-kept
+returns-in-Eco-clause-kept g c = λ w.
+    rw c.in-Eco.is
+    (kept_reads refl refl (λ is. cc) (λ i other. refl) refl c.eco.ensures.sound c.eco.ensures.unchanged (λ late. c.eco.ensures.unsaid) c.eco.ensures.asks c.eco.ensures.none_lost c.eco.ensures.causes)
 
-pub returns-in-Info-clause-serves : goal.returns-in-Info-clause-serves
-returns-in-Info-clause-serves g c = λ w s text st.
-    rw c.in-Info.is (quiet_said c.info.result c.say-in-Info.result c.args.machine.now c.args.machine.now _ (g.F.Files.seen c.args.files.now) s _ _ c.info.ensures.quiet c.say-in-Info.ensures.said st)
-
-pub returns-in-Info-clause-carries : goal.returns-in-Info-clause-carries
-returns-in-Info-clause-carries g c = λ s st. if_err c.say-in-Info.result _ (carry_of c.args.machine.now (g.F.Files.seen c.args.files.now) s _ st)
-
-pub returns-in-Quit-clause-serves : goal.returns-in-Quit-clause-serves
-returns-in-Quit-clause-serves g c = λ w s text st.
-    rw c.in-Quit.is (quiet_said c.quit.result c.say-in-Quit.result c.args.machine.now c.args.machine.now _ (g.F.Files.seen c.args.files.now) s _ _ c.quit.ensures.quiet c.say-in-Quit.ensures.said st)
-
-pub returns-in-Quit-clause-carries : goal.returns-in-Quit-clause-carries
-returns-in-Quit-clause-carries g c = λ s st. if_err c.say-in-Quit.result _ (carry_of c.args.machine.now (g.F.Files.seen c.args.files.now) s _ st)
-
-pub returns-in-Hits-clause-carries : goal.returns-in-Hits-clause-carries
-returns-in-Hits-clause-carries g c = λ s st. if_err c.hits.result _ (carry_of c.args.machine.now (g.F.Files.seen c.args.files.now) s _ st)
-
-pub returns-in-List-clause-carries : goal.returns-in-List-clause-carries
-returns-in-List-clause-carries g c = λ s st. if_err c.list.result _ (carry_of c.args.machine.now (g.F.Files.seen c.args.files.now) s _ st)
-
-pub returns-in-Show-clause-carries : goal.returns-in-Show-clause-carries
-returns-in-Show-clause-carries g c = λ s st.
-    if_err c.show.result _ (carry_same c.args.machine.now (g.F.Files.seen c.args.files.now) (g.F.Files.seen c.show.new.files) s _ c.show.ensures.unchanged st)
-
-pub returns-in-Export-clause-carries : goal.returns-in-Export-clause-carries
-returns-in-Export-clause-carries g c = λ s st.
-    if_err c.export.result _ (carry_same c.args.machine.now (g.F.Files.seen c.args.files.now) (g.F.Files.seen c.export.new.files) s _ c.export.ensures.unchanged st)
+pub returns-in-Twins-clause-kept : goal.returns-in-Twins-clause-kept
+returns-in-Twins-clause-kept g c = λ w.
+    rw c.in-Twins.is (kept_room refl refl (λ is. cc) c.twins.ensures.sound c.twins.ensures.unchanged c.twins.ensures.unsaid c.twins.ensures.asks c.twins.ensures.none_lost c.twins.ensures.causes)
 
 pub returns-in-Index-clause-serves : goal.returns-in-Index-clause-serves
-returns-in-Index-clause-serves g c = λ w s text st. rw c.in-Index.is (c.index.ensures.serves s st)
+returns-in-Index-clause-serves g c = λ w s text st told. rw c.in-Index.is (c.index.ensures.serves s st)
 
-pub returns-in-Index-clause-carries : goal.returns-in-Index-clause-carries
-returns-in-Index-clause-carries g c = λ s st.
-    if_err c.index.result _ (carry_same c.args.machine.now (g.F.Files.seen c.args.files.now) (g.F.Files.seen c.index.new.files) s _ c.index.ensures.unchanged st)
+pub returns-in-Index-clause-kept : goal.returns-in-Index-clause-kept
+returns-in-Index-clause-kept g c = λ w.
+    rw c.in-Index.is (kept_room refl refl (λ is. cc) c.index.ensures.sound c.index.ensures.unchanged c.index.ensures.unsaid c.index.ensures.asks c.index.ensures.none_lost c.index.ensures.causes)
 
-pub returns-in-Tree-clause-carries : goal.returns-in-Tree-clause-carries
-returns-in-Tree-clause-carries g c = λ s st.
-    if_err c.tree.result _ (carry_same c.args.machine.now (g.F.Files.seen c.args.files.now) (g.F.Files.seen c.tree.new.files) s _ c.tree.ensures.unchanged st)
+pub returns-in-Save-clause-kept : goal.returns-in-Save-clause-kept
+returns-in-Save-clause-kept g c = λ w.
+    rw c.in-Save.is
+    (kept_edits refl refl c.save.ensures.sound (λ s st. save_carries c.save.result _ _ s _ _ (c.save.ensures.serves s st) (c.save.ensures.carries s st)) (λ s text st. c.save.ensures.settled s st) (λ late. c.save.ensures.unsaid)
+    c.save.ensures.choices (asks_same (by_looks (λ looks plies. 0)) c.args.machine.now _ _ c.save.ensures.none_asked) c.save.ensures.none_lost (causes_beside c.save.result _ _ _ _ _ c.save.ensures.causes))

@@ -1,14 +1,11 @@
-use Rattle.client_desk.proofs.SeatLaws.{follows-added, follows-edited, follows-renumbered}
+use Rattle.std.proofs.Common.{ap, length, ◌∙◌}
+use Rattle.client_desk.specs.Changes.{moving_of}
+use Rattle.client_desk.specs.Seats.{Seated}
+use Rattle.client_desk.proofs.SeatLaws.{few-after}
 use Rattle.client_desk.proofs.parts.Parts.follow.Goals as goal
 
-pub returns-in-Added-clause-follows : goal.returns-in-Added-clause-follows
-returns-in-Added-clause-follows g c =
-    rw c.in-Added.is (follows-added c.add.result c.args.entry _ c.args.self.now c.add.new.self c.add.ensures.filter c.add.ensures.saved c.add.ensures.watches c.add.ensures.slots)
-
-pub returns-in-Edited-clause-follows : goal.returns-in-Edited-clause-follows
-returns-in-Edited-clause-follows g c =
-    rw c.in-Edited.is (follows-edited c.edit.result c.args.entry _ _ _ c.args.self.now c.edit.new.self c.edit.ensures.filter c.edit.ensures.saved c.edit.ensures.watches c.edit.ensures.slots)
-
-pub returns-in-Renumbered-clause-follows : goal.returns-in-Renumbered-clause-follows
-returns-in-Renumbered-clause-follows g c =
-    rw c.in-Renumbered.is (follows-renumbered c.renumber.result c.args.entry _ c.args.self.now c.renumber.new.self c.renumber.ensures.filter c.renumber.ensures.saved c.renumber.ensures.watches c.renumber.ensures.slots)
+pub returns-clause-few : goal.returns-clause-few
+returns-clause-few g c =
+    few-after c.follow.result c.args.entry c.args.change.now c.args.self.now _ _ c.follow.new.filter c.requires.fits c.requires.seat.few
+    (c.moved-moved.ensures.moved ∙ ap (moving_of c.args.change.now) (c.len-games.ensures.len ∙ ap (λ (s : Seated). length s.filter) c.self.view_is))
+    (ap (λ (s : Seated). s.filter) c.self-2.view_is ∙ c.in_ok-show.ensures.filter) c.follow.ensures.filter c.follow.ensures.part

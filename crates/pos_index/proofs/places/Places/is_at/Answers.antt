@@ -13,14 +13,8 @@ returns-then-eq c =
     let there : c.args.i < length rows = there_is keys rows c.args.self.now c.args.i c.self.view_is c.requires.game in
     let within : c.args.k < length (row_in rows c.args.i) =
     omega (arith, c.requires.place, row_length keys rows c.args.i there, ap (λ (l : List (List Place)). length (row_in l c.args.i)) c.self.view_is) in
-    let spots = c.spots.result.now in
-    let row : row_in rows c.args.i ≡ spots =
-    get_or_default rows c.args.i [] c.index-rows-i.result there ∙ ap (λ (l : List (List Spot)). slice_index_or l c.args.i c.index-rows-i.result) (sym c.rows.ensures)
-    ∙ sym c.index-rows-i.is ∙ sym c.spots.ensures in
-    let spot : spot_in (row_in rows c.args.i) c.args.k ≡ c.index-spots-from.result =
-    ap (λ (r : List Spot). spot_in r c.args.k) row ∙ get_or_default spots c.args.k (spot_in [] 0) c.index-spots-from.result (omega (arith, within, ap length row))
-    ∙ ap (λ (n : ℕ). slice_index_or spots n c.index-spots-from.result) (sym c.from.ensures) ∙ sym c.index-spots-from.is in
-    let board : slice_get keys c.index-spots-from.result.board ≡ Some c.args.board.now = search rules in
+    let spot : spot_in (row_in rows c.args.i) c.args.k ≡ c.spot-spot.result = ap (λ (n : ℕ). spot_in (row_in rows c.args.i) n) (sym c.from.ensures) ∙ sym c.spot-spot.ensures in
+    let board : slice_get keys c.spot-spot.result.board ≡ Some c.args.board.now = search rules in
     record {
       at = λ ply. stands_on keys rows c.args.self.now c.args.i c.args.k c.args.board.now c.self.view_is there within
           (ap (λ (s : Spot). slice_get keys s.board) spot ∙ board) (ap (λ (s : Spot). s.ply) spot ∙ (search (rules, ply)));

@@ -1,6 +1,0 @@
-use Rattle.pos_search.proofs.InMemoryLemmas.{IsWalked}
-use Rattle.pos_search.proofs.in_memory.next_in.Given as goal
-
--- The position is the one after the moves before this place, and the board stands at none of them.
-abbrev pub invariant-loop-node : goal.invariant-loop-node
-invariant-loop-node l = IsWalked l.board l.game l.node-index l.position

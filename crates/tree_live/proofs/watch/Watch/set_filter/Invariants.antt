@@ -1,8 +1,0 @@
-use Rattle.std.proofs.Common.{◌≡◌, take}
-use Rattle.tree_live.specs.Watching.{by_marks}
-use Rattle.tree_live.specs.declared.marks.Marks.TheVariants.{Plies}
-use Rattle.tree_live.proofs.watch.Watch.set_filter.Given as goal
-
--- The games so far are in or out by their marks.
-abbrev pub invariant-loop-i : goal.invariant-loop-i
-invariant-loop-i l = l.self ≡ record l.fn.self { games = by_marks Plies (take l.i l.filter) l.fn.self.games }
