@@ -7,11 +7,13 @@ use Rattle.std.proofs.Math.Seq.{drop-append-add}
 use Rattle.base_files.specs.Seen.{Seen, replaced, told_instead}
 use Rattle.base_files.specs.Told.{TellsLength}
 use Rattle.base_files.specs.declared.part.Part.TheVariants as part
-use Rattle.index_entry.specs.Entry.{entry_read}
+use Rattle.index_entry.specs.Bits.{bit_in}
+use Rattle.index_entry.specs.Entry.{IsWritten, entry_read, free_places, is_among}
 use Rattle.index_entry.specs.Index.{entry_bytes, head_in, index_bytes, index_read}
 use Rattle.index_entry.specs.declared.entry.Entry.{Entry}
 use Rattle.index_entry.specs.declared.index.IndexHead.{IndexHead}
 use Rattle.index_entry.proofs.HeaderLemmas.{header-is, header-long, header-read}
+use Rattle.index_entry.proofs.KeptLemmas.{written_is_cleared}
 use Rattle.name_base.specs.NameLists.{AreSound, NameLists}
 use Rattle.name_base.specs.Reading.{names_at}
 use Rattle.name_base.specs.NamesText.{IsNamesText}
@@ -25,7 +27,7 @@ use Rattle.base_core.specs.Means.{AreGames, Carries, HoldsNames, Means}
 use Rattle.base_core.specs.Opening.{is_created}
 use Rattle.base_core.specs.Packing.{packed_at}
 use Rattle.base_core.specs.Represents.{IsKept, IsSound, Keeps, Kept, Represents}
-use Rattle.base_core.specs.Saved.{IsIndexOf, MeansIt, OpensAgain, StillCarries, Writes}
+use Rattle.base_core.specs.Saved.{AreWhole, IsClear, IsIndexOf, MeansIt, OpensAgain, StillCarries, Writes}
 use Rattle.base_core.specs.Uses.{frequencies_of, player_uses, uses_of}
 use Rattle.base_core.proofs.GamesLaws.{at-all}
 use Rattle.base_core.proofs.Lists.{get_some}
@@ -153,6 +155,34 @@ faultless kept index names games base strict fault sound writes read end is =
     let held = get_some base.games i (subst (λ n. i < n) (sym sound.count ∙ is.count) below) in
     passes strict kept index games i held.0 writes.entries read end (game-at kept games base i held.0 sound is held.1))
 
+-- ---- with zeros in all places that say nothing.
+
+least : (free : Bool) (own other : ℕ) → own ≡ (if free then 0 else other) → own ≤ other
+least true own other is = omega (arith, is)
+least false own other is = omega (arith, is)
+
+clear-so : (bytes : List ℕ) (e : Entry) → IsWritten bytes e → IsClear bytes
+clear-so bytes e written = λ others same place within.
+    least (is_among place (free_places others)) (bit_in bytes place) (bit_in others place) (written_is_cleared others bytes e (same ∙ written.says) written place within)
+
+written-whole : (kept : Kept) (index names games : List ℕ) (base : Base) → IsSound kept → Writes kept index names → index_read index ≡ Ok kept.header → kept.end ≡ length games → Represents kept games base →
+    AreWhole index names games base
+written-whole kept index names games base sound writes read end is =
+    let text = writes.entries in
+    let parts = head-parts index kept.header read in
+    let rest : drop 182 index ≡ text.entries = ap (λ (b : List ℕ). drop 182 b) text.text ∙ behind kept.header text.entries parts.0 parts.1 in
+    let count : length (drop 182 index) ≡ length text.entries = ap (λ (b : List ℕ). length b) rest in
+    let long : 182 ≤ length index = header-long index kept.header (header-read index kept.header read) in
+    record {
+      faultless = λ strict fault. faultless kept index names games base strict fault sound writes read end is;
+      size = omega (arith, long, length-drop 182 index, count, text.written.size, is.count);
+      clear = λ game below.
+          let e = get_some kept.entries game (subst (λ n. game < n) (sym is.count) below) in
+          let at : entry_bytes index game ≡ packed_at text.entries game =
+          ap (λ (b : List ℕ). entry_bytes b game) text.text ∙ entry-at kept.header text.entries game (sym (ap index_read text.text) ∙ read) in
+          subst IsClear (sym at) (clear-so (packed_at text.entries game) e.0 (text.written.each game e.0 e.1));
+    }
+
 not_created : (create : Bool) (index names games : List ℕ) → 182 ≤ length index → is_created create index names games ≡ false
 not_created false index names games long = refl
 not_created true index names games long = rw (ne_eqb (length index) 0 (λ none. absurd (omega (arith, none, long)))) refl
@@ -163,7 +193,7 @@ written-again kept index names games base sound writes read end is =
     let means = written-means kept index names games base sound writes read end is in
     record {
       means = means;
-      faultless = λ strict fault. faultless kept index names games base strict fault sound writes read end is;
+      whole = written-whole kept index names games base sound writes read end is;
       opened = λ create strict again mended opens. opened_meant create strict index names games again mended base (not_created create index names games (header-long index kept.header (header-read index kept.header read))) opens means;
     }
 

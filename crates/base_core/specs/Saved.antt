@@ -1,8 +1,10 @@
 -- What saving an open base writes, and what the files then mean (this project's own, over Scid's format si4).
-use Rattle.std.specs.Prelude.{◌≡◌, ◌⊎◌, ℕ, Bool, List}
+use Rattle.std.specs.Prelude.{◌≡◌, ◌≤◌, ◌<◌, ◌+◌, ◌*◌, ◌⊎◌, ℕ, Bool, List, length}
 use Rattle.base_files.specs.Seen.{Seen, replaced}
 use Rattle.base_files.specs.declared.part.Part.TheVariants as part
-use Rattle.index_entry.specs.Index.{index_bytes}
+use Rattle.index_entry.specs.Bits.{bit_in}
+use Rattle.index_entry.specs.Entry.{entry_read}
+use Rattle.index_entry.specs.Index.{entry_bytes, index_bytes}
 use Rattle.name_base.specs.NamesText.{IsNamesText}
 use Rattle.base_core.specs.declared.fault.BaseFault.{BaseFault}
 use Rattle.base_core.specs.Base.{Base}
@@ -36,10 +38,21 @@ abbrev pub IsLeft : Kept → Seen → Seen → Type 0
 IsLeft kept old new =
     (new ≡ old) ⊎ ((names : List ℕ) × (IsNamesText kept.names (frequencies_of kept.names kept.entries) names × (new ≡ replaced part.Names names old)))
 
--- The files mean this base, have no fault however strict the opening is, and whatever is opened of them stands for this base.
+-- Bytes of an entry with no bit set that others leave out which say the same: there are zeros in all places that say nothing.
+abbrev pub IsClear : List ℕ → Type 0
+IsClear bytes = (others : List ℕ) → entry_read others ≡ entry_read bytes → (place : ℕ) → place < 376 → bit_in bytes place ≤ bit_in others place
+
+-- Files that were written as a whole for a base. They have no fault, however strict the opening is. The index is its
+-- header and the entries of the games, and each of these is clear.
+pub record AreWhole (index names games : List ℕ) (base : Base) : Type 0 where
+  pub faultless : (strict : Bool) (fault : BaseFault) → FirstFault strict index names games fault → ⊥
+  pub size : length index ≡ 182 + 47 * length base.games
+  pub clear : (game : ℕ) → game < length base.games → IsClear (entry_bytes index game)
+
+-- The files mean this base, were written as a whole for it, and whatever is opened of them stands for it.
 pub record OpensAgain (index names games : List ℕ) (base : Base) : Type 0 where
   pub means : Means index names games base
-  pub faultless : (strict : Bool) (fault : BaseFault) → FirstFault strict index names games fault → ⊥
+  pub whole : AreWhole index names games base
   pub opened : (create strict : Bool) (kept : Kept) (mended : ℕ) → Opens create strict index names games kept mended → Represents kept games base
 
 -- If the files are told, and what is kept stands for a base, they mean it now and open again as it.

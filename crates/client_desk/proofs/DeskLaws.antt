@@ -1,11 +1,14 @@
 -- A desk whose seats have changed: for whoever keeps a desk.
-use Rattle.std.proofs.Common.{◌≡◌, ℕ, ◌+◌, ◌<◌, ◌==◌, Bool, true, false, List, Option, Some, None, nat_lt, length, get_or, slice_get, set, All, refl, sym, subst, arith}
+use Rattle.std.proofs.Common.{◌≡◌, ℕ, ◌+◌, ◌<◌, ◌==◌, Bool, true, false, List, Option, Some, None, nat_lt, length, get_or, slice_get, set, All, refl, sym, subst, arith, IfSome}
 use Rattle.std.specs.List.{AllPairs}
 use Rattle.std.proofs.lemmas.Bool.{eqb-true, eqb-false, ltb-true, ltb-false}
 use Rattle.std.proofs.lemmas.List.{length-set, get_or-set_same, get_or-set_other}
+use Rattle.std.specs.Option.{IsSomeAnd}
+use Rattle.tree_live.specs.Views.{Shows}
+use Rattle.tree_live.specs.Watching.{hits_in}
 use Rattle.std.proofs.lemmas.Option.{get_or_from_slice_get, slice_get_past}
 use Rattle.tree_rows.specs.declared.row.Row.{Row}
-use Rattle.tree_live.specs.Slots.{IsShown, in_slot}
+use Rattle.tree_live.specs.Slots.{in_slot}
 use Rattle.client_desk.specs.declared.change.Change.{Change}
 use Rattle.client_desk.specs.Seats.{Seated, IsSlot, ShowsSeat}
 use Rattle.client_desk.specs.Desks.{Apart, Echoed}
@@ -52,7 +55,7 @@ one-shown rows seats c old new before after there apart shown others shows =
         (subst (λ (x : Seated). ShowsSeat rows x after) (sym (get_or-set_same seats c new d inside)) shows)
     by j d below false e =
         subst (λ (x : Seated). ShowsSeat rows x after) (sym (get_or-set_other seats c j new d (eqb-false j c e)))
-        (λ k few. subst (λ (slot : Option _). IsShown rows (in_slot (get_or seats j d).slots.watches k) slot)
+        (λ k few. subst (λ (slot : Option _). IfSome (in_slot (get_or seats j d).slots.watches k) (λ watch. IsSomeAnd slot (λ view. Shows (hits_in watch.games) (rows view))))
         (sym (others ((get_or seats j d).slots.first + k)
         (λ here. apart-pair seats apart j c d (eqb-false j c e) below inside ((get_or seats j d).slots.first + k) (slot-of (get_or seats j d).slots k few)
         (subst (λ (x : Seated). IsSlot x.slots ((get_or seats j d).slots.first + k)) (sym (get_or_from_slice_get seats c old d there)) here))))

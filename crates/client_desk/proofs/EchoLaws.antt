@@ -1,11 +1,12 @@
 -- A change that is brought to one seat after the other.
-use Rattle.std.proofs.Common.{◌≡◌, ℕ, ◌+◌, ◌<◌, ◌≤◌, ◌==◌, Bool, true, false, List, [], ◌∷◌, Option, Some, None, nat_lt, length, get_or, All, option_map, refl, sym, subst, ◌∙◌, arith}
+use Rattle.std.proofs.Common.{◌≡◌, ℕ, ◌+◌, ◌<◌, ◌≤◌, ◌==◌, Bool, true, false, List, [], ◌∷◌, Option, Some, None, nat_lt, length, get_or, All, option_map, refl, sym, subst, ◌∙◌, arith, IfSome}
 use Rattle.std.specs.List.{AllPairs}
 use Rattle.std.proofs.lemmas.Bool.{eqb-true, eqb-false, ltb-true, ltb-false}
 use Rattle.tree_rows.specs.declared.row.Row.{Row}
-use Rattle.tree_live.specs.Watching.{Watched}
-use Rattle.tree_live.specs.Slots.{Slotted, IsShown, IsTold, in_slot}
-use Rattle.tree_live.specs.Views.{Told}
+use Rattle.std.specs.Option.{IsSomeAnd}
+use Rattle.tree_live.specs.Watching.{Watched, hits_in}
+use Rattle.tree_live.specs.Slots.{Slotted, IsTold, in_slot}
+use Rattle.tree_live.specs.Views.{Told, Shows, ToldMore}
 use Rattle.tree_live.proofs.TellingLaws.{told-nothing-more}
 use Rattle.client_desk.specs.declared.change.Change.{Change}
 use Rattle.client_desk.specs.Seats.{Seated, IsSlot, SeatTold, ShowsSeat}
@@ -26,14 +27,14 @@ apart-pair seats apart j l d differ below_j below_l i in_j in_l = by (nat_lt j l
         back true f = apart l j d (ltb-true l j f) below_j i in_l in_j
         back false f = differ (omega (arith, ltb-false j l e, ltb-false l j f))
 
-told-from : {B : Type 0} (told : B → Told) (most : Option ℕ) (before again after : Option B) → again ≡ before → IsTold told most again after → IsTold told most before after
-told-from told most before again after same h = subst (λ (slot : Option _). IsTold told most slot after) same h
+told-from : {B : Type 0} (told : B → Told) (most : Option ℕ) (before again after : Option B) → again ≡ before → IsTold (λ most old new. ToldMore most (told old) (told new)) most again after → IsTold (λ most old new. ToldMore most (told old) (told new)) most before after
+told-from told most before again after same h = subst (λ (slot : Option _). IsTold (λ most old new. ToldMore most (told old) (told new)) most slot after) same h
 
-told-to : {B : Type 0} (told : B → Told) (most : Option ℕ) (before after again : Option B) → again ≡ after → IsTold told most before after → IsTold told most before again
-told-to told most before after again same h = subst (λ (slot : Option _). IsTold told most before slot) (sym same) h
+told-to : {B : Type 0} (told : B → Told) (most : Option ℕ) (before after again : Option B) → again ≡ after → IsTold (λ most old new. ToldMore most (told old) (told new)) most before after → IsTold (λ most old new. ToldMore most (told old) (told new)) most before again
+told-to told most before after again same h = subst (λ (slot : Option _). IsTold (λ most old new. ToldMore most (told old) (told new)) most before slot) (sym same) h
 
-told-nothing : {B : Type 0} (rows : B → List Row) (told : B → Told) (few : Watched → ℕ) (watch : Option Watched) (slot : Option B) → IsShown rows watch slot
-    → IsTold told (option_map few watch) slot slot
+told-nothing : {B : Type 0} (rows : B → List Row) (told : B → Told) (few : Watched → ℕ) (watch : Option Watched) (slot : Option B) → IfSome watch (λ watch. IsSomeAnd slot (λ view. Shows (hits_in watch.games) (rows view)))
+    → IsTold (λ most old new. ToldMore most (told old) (told new)) (option_map few watch) slot slot
 told-nothing rows told few None slot h = refl
 told-nothing rows told few (Some watch) None h = absurd h
 told-nothing rows told few (Some watch) (Some view) h = told-nothing-more (few watch) (told view)
@@ -95,7 +96,7 @@ echo-told rows told by change c s0 s s1 v0 v v1 apart below echoing at = case (c
         seat d = subst (λ (x : Seated). SeatTold told x.slots (most_told None change x) v v1) (echoing.left c d (omega arith)) (at.seat d differ)
 
         slot : (j k : ℕ) (d : Seated) → (j ≡ by → ⊥) → j < length s0 → k < (get_or s0 j d).slots.count → (b : Bool) → (j == c) ≡ b
-            → IsTold told (option_map (most_told None change (get_or s0 j d) k) (in_slot (get_or s0 j d).slots.watches k))
+            → IsTold (λ most old new. ToldMore most (told old) (told new)) (option_map (most_told None change (get_or s0 j d) k) (in_slot (get_or s0 j d).slots.watches k))
             (in_slot v0 ((get_or s0 j d).slots.first + k)) (in_slot v1 ((get_or s0 j d).slots.first + k))
         slot j k d other within few true f =
             let is : c ≡ j = sym (eqb-true j c f) in
@@ -178,7 +179,7 @@ echo-more rows told by change c s0 s s1 v0 v v1 apart below echoing at done = re
     shown j d within true e = subst (λ (n : ℕ). ShowsSeat rows (get_or s1 n d) v1) (sym (eqb-true j c e)) (done.shown d)
     shown j d within false e =
         subst (λ (x : Seated). ShowsSeat rows x v1) (sym (at.others j d (eqb-false j c e)))
-        (λ k few. subst (λ (slot : Option _). IsShown rows (in_slot (get_or s j d).slots.watches k) slot)
+        (λ k few. subst (λ (slot : Option _). IfSome (in_slot (get_or s j d).slots.watches k) (λ watch. IsSomeAnd slot (λ view. Shows (hits_in watch.games) (rows view))))
         (sym (unmoved j ((get_or s j d).slots.first + k) d (eqb-false j c e) within (placed j ((get_or s j d).slots.first + k) d (slot-of (get_or s j d).slots k few))))
         (echoing.shown j d within k few))
 

@@ -1,11 +1,10 @@
 -- What a seat keeps as it changes.
 use Rattle.std.specs.Option.{option_map_or}
 use Rattle.std.specs.Prelude.{IfErr}
-use Rattle.std.proofs.Common.{◌≡◌, replicate, ℕ, zero, suc, ◌+◌, ◌-◌, ◌<◌, ◌≤◌, ◌==◌, ◌&&◌, Bool, true, false, cond, List, [], ◌∷◌, ◌++◌, Option, Some, None, nat_lt, length, map, get_or, slice_get, set, take, drop, All, IfSome, Result, Ok, Err, OnOk, OnErr, option_map, length-append, refl, sym, ap, subst, ◌∙◌, arith}
+use Rattle.std.proofs.Common.{◌≡◌, replicate, ℕ, ◌+◌, ◌-◌, ◌<◌, ◌≤◌, ◌==◌, ◌&&◌, Bool, true, false, cond, List, [], ◌∷◌, ◌++◌, Option, Some, None, nat_lt, length, get_or, set, take, drop, All, IfSome, Result, Ok, Err, OnOk, OnErr, option_map, length-append, refl, sym, ap, subst, ◌∙◌, arith}
 use Rattle.std.proofs.lemmas.Bool.{eqb-true, eqb-false, ltb-true, ltb-false}
 use Rattle.std.proofs.lemmas.List.{length-set, length-drop, length-take, length-map, get_or_past, get_or-set_same, get_or-set_other}
 use Rattle.std.proofs.lemmas.List.Elements.{All-map}
-use Rattle.game_filter.specs.Renumbering.{renumbered}
 use Rattle.filter_seat.specs.declared.saved.SavedFilter.{SavedFilter}
 use Rattle.filter_seat.specs.SavedFilters.{most_saved, place_of, kept_at, kept_in, dropped_in, kept_with}
 use Rattle.filter_seat.specs.Following.{Moving, filter_after}
@@ -13,13 +12,13 @@ use Rattle.filter_seat.proofs.FollowLaws.{longer}
 use Rattle.filter_seat.proofs.SavedLaws.{length_to_start}
 use Rattle.tree_rows.specs.declared.hit.GameHit.{GameHit}
 use Rattle.tree_live.specs.declared.entry.Entry.{Entry}
-use Rattle.tree_live.specs.Watching.{Watched, under, all_out, all_changes, with_game}
+use Rattle.tree_live.specs.Watching.{Watched, under, all_out}
 use Rattle.tree_live.specs.Slots.{Slotted, AreChanged, AreTold, EachWatch, IsTold, in_slot}
-use Rattle.tree_live.specs.Views.{Told}
+use Rattle.tree_live.specs.Views.{Told, ToldMore}
 use Rattle.client_desk.specs.declared.change.Change.{Change}
 use Rattle.client_desk.specs.declared.change.Change.TheVariants.{Added, Edited, Renumbered}
 use Rattle.client_desk.specs.Seats.{Seated, IsSeat, IsSlot, GoesBy, SeatTold}
-use Rattle.client_desk.specs.Changes.{Fits, Follows, game_with, moving_of, most_told, watch_after}
+use Rattle.client_desk.specs.Changes.{Fits, Follows, moving_of, most_told, watch_after}
 use Rattle.client_desk.proofs.GameLaws.{ins, same-number, ins-under, ins-added, ins-edited, marks-to_start, ins-renumbered, length-renumbered, few-renumbered}
 
 -- ---- all slots
@@ -50,7 +49,7 @@ told-seat told slots most before after within all = record {
   where
     unwatched : (k : ℕ) → in_slot slots.watches k ≡ None → in_slot after (slots.first + k) ≡ in_slot before (slots.first + k)
     unwatched k none =
-        subst (λ (o : Option Watched). IsTold told (option_map (most k) o) (in_slot before (slots.first + k)) (in_slot after (slots.first + k))) none (all.views k)
+        subst (λ (o : Option Watched). IsTold (λ most old new. ToldMore most (told old) (told new)) (option_map (most k) o) (in_slot before (slots.first + k)) (in_slot after (slots.first + k))) none (all.views k)
 
     by : (i : ℕ) → (IsSlot slots i → ⊥) → (b : Bool) → nat_lt i slots.first ≡ b → in_slot after i ≡ in_slot before i
     by i outside true e = all.others i (ltb-true i slots.first e)
@@ -232,27 +231,6 @@ seat-followed entry change old new seat fits few follows = record {
 }
 
 -- ---- what each kind of change does
-
--- The entry of a game that was read.
-pub entry-at : (plies : List (Option ℕ)) (i : ℕ) (entry : Option ℕ) → slice_get plies i ≡ Some entry → get_or plies i None ≡ entry
-entry-at [] i entry e = absurd cc
-entry-at (ply ∷ plies) zero entry e = cc
-entry-at (ply ∷ plies) (suc i) entry e = entry-at plies i entry e
-
-pub tells-edited : (old new : Slotted) (first game : ℕ) (hits : List (Option GameHit)) (plies : List (Option ℕ)) (entry : Option ℕ) → slice_get plies game ≡ Some entry
-    → AreChanged (λ k watch. record watch { games = with_game game (game_with entry hits (first + k)) watch.games }) old new
-    → AreChanged (λ k watch. record watch { games = with_game game (game_with (get_or plies game None) hits (first + k)) watch.games }) old new
-tells-edited old new first game hits plies entry e =
-    subst (λ (o : Option ℕ). AreChanged (λ k watch. record watch { games = with_game game (game_with o hits (first + k)) watch.games }) old new)
-    (sym (entry-at plies game entry e))
-
-pub told-edited : {B : Type 0} (told : B → Told) (slots : Slotted) (before after : List (Option B)) (first game : ℕ) (hits : List (Option GameHit)) (plies : List (Option ℕ)) (entry : Option ℕ)
-    → slice_get plies game ≡ Some entry
-    → AreTold told slots (λ k watch. all_changes watch.games (with_game game (game_with entry hits (first + k)) watch.games)) before after
-    → AreTold told slots (λ k watch. all_changes watch.games (with_game game (game_with (get_or plies game None) hits (first + k)) watch.games)) before after
-told-edited told slots before after first game hits plies entry e =
-    subst (λ (o : Option ℕ). AreTold told slots (λ k watch. all_changes watch.games (with_game game (game_with o hits (first + k)) watch.games)) before after)
-    (sym (entry-at plies game entry e))
 
 -- The filter is not too long, whether or not all filters followed.
 abbrev came : Moving → ℕ

@@ -1,7 +1,7 @@
 -- Four clients on one base (this project's own).
 use Rattle.std.specs.Prelude.{◌≡◌, ℕ, ◌+◌, ◌<◌, Bool, false, List, [], ◌∷◌, Option, None, length, replicate, slice_index_or, option_map}
 use Rattle.tree_live.specs.Slots.{IsTold, in_slot}
-use Rattle.tree_live.specs.Views.{Told}
+use Rattle.tree_live.specs.Views.{Told, ToldMore}
 use Rattle.client_desk.specs.declared.change.Change.{Change}
 use Rattle.client_desk.specs.Seats.{Seated, IsSlot, new_seat}
 use Rattle.client_desk.specs.Changes.{Follows, most_told}
@@ -36,7 +36,7 @@ IsOthers by seats i = (c : ℕ) × (d : Seated) × (c ≡ by → ⊥) × (c < le
 -- view is as before.
 pub record EchoTold {B : Type 0} (told : B → Told) (by : ℕ) (change : Change) (seats : List Seated) (before after : List (Option B)) : Type 0 where
   pub slots : (c k : ℕ) (d : Seated) → (c ≡ by → ⊥) → c < length seats → k < (slice_index_or seats c d).slots.count
-      → IsTold told (option_map (most_told None change (slice_index_or seats c d) k) (in_slot (slice_index_or seats c d).slots.watches k))
+      → IsTold (λ most old new. ToldMore most (told old) (told new)) (option_map (most_told None change (slice_index_or seats c d) k) (in_slot (slice_index_or seats c d).slots.watches k))
       (in_slot before ((slice_index_or seats c d).slots.first + k)) (in_slot after ((slice_index_or seats c d).slots.first + k))
   pub others : (i : ℕ) → (IsOthers by seats i → ⊥) → in_slot after i ≡ in_slot before i
   pub number : length after ≡ length before

@@ -1,12 +1,12 @@
 -- A seat at a base: what one client has of its own (this project's own).
-use Rattle.std.specs.Prelude.{◌≡◌, ℕ, ◌+◌, ◌<◌, ◌≤◌, ◌&&◌, Bool, nat_lt, List, [], Option, None, All, is_some, length, map, replicate, option_map}
+use Rattle.std.specs.Prelude.{◌≡◌, ℕ, ◌+◌, ◌<◌, ◌≤◌, ◌&&◌, Bool, nat_lt, List, [], Option, None, All, is_some, length, map, replicate, option_map, IsSomeAnd, IfSome}
 use Rattle.game_filter.specs.Filter.{all_in}
 use Rattle.filter_seat.specs.SavedFilters.{most_saved}
 use Rattle.filter_seat.specs.declared.saved.SavedFilter.{SavedFilter}
 use Rattle.tree_rows.specs.declared.row.Row.{Row}
-use Rattle.tree_live.specs.Watching.{Watched}
-use Rattle.tree_live.specs.Slots.{Slotted, EachWatch, IsShown, IsTold, in_slot}
-use Rattle.tree_live.specs.Views.{Told}
+use Rattle.tree_live.specs.Watching.{Watched, hits_in}
+use Rattle.tree_live.specs.Slots.{Slotted, EachWatch, IsTold, in_slot}
+use Rattle.tree_live.specs.Views.{Told, Shows, ToldMore}
 
 -- The filter, the filters that are kept by name, and the slots, some of which show trees.
 pub record Seated : Type 0 where
@@ -47,10 +47,10 @@ holds_view slots views k = nat_lt k slots.count && is_some (in_slot views (slots
 
 -- Each slot of a seat that is watched holds a view, which shows the rows of its hits of the games that are in.
 abbrev pub ShowsSeat : {B : Type 0} → (B → List Row) → Seated → List (Option B) → Type 0
-ShowsSeat rows seat views = (k : ℕ) → k < seat.slots.count → IsShown rows (in_slot seat.slots.watches k) (in_slot views (seat.slots.first + k))
+ShowsSeat rows seat views = (k : ℕ) → k < seat.slots.count → IfSome (in_slot seat.slots.watches k) (λ watch. IsSomeAnd (in_slot views (seat.slots.first + k)) (λ view. Shows (hits_in watch.games) (rows view)))
 
 -- Each slot that is watched holds its view still, which was told at most so many changes, and every other view is as before.
 pub record SeatTold {B : Type 0} (told : B → Told) (slots : Slotted) (most : ℕ → Watched → ℕ) (before after : List (Option B)) : Type 0 where
-  pub slots_told : (k : ℕ) → k < slots.count → IsTold told (option_map (most k) (in_slot slots.watches k)) (in_slot before (slots.first + k)) (in_slot after (slots.first + k))
+  pub slots_told : (k : ℕ) → k < slots.count → IsTold (λ most old new. ToldMore most (told old) (told new)) (option_map (most k) (in_slot slots.watches k)) (in_slot before (slots.first + k)) (in_slot after (slots.first + k))
   pub others : (i : ℕ) → (IsSlot slots i → ⊥) → in_slot after i ≡ in_slot before i
   pub number : length after ≡ length before

@@ -34,6 +34,7 @@ impl Seat {
     ghost use Rattle.filter_seat.specs.SavedFilters.{can_keep, dropped_in, is_kept, kept_in, saved_named};
     ghost use Rattle.tree_live.specs.Watching.{all_changes, all_out, hits_in, under};
     ghost use Rattle.tree_live.specs.Slots.{AreChanged, IsTold, in_slot};
+    ghost use Rattle.tree_live.specs.Views.{ToldMore};
     ghost use Rattle.client_desk.specs.Seats.{Emptied, IsSeat, SeatTold, ShowsSeat, holds_view, new_seat};
     ghost use Rattle.client_desk.specs.Changes.{Fits, Follows, most_told};
     ghost use Rattle.client_desk.specs.declared.fault.KeepError.TheVariants as keeping;
@@ -136,7 +137,7 @@ impl Seat {
         ensures shown { OnOk result (ShowsSeat (λ b. rows b) self.new views.new) }
         ensures unchanged { OnErr result (self.new ≡ self.old) }
         ensures same_views { holds_view self.old.slots views.old k ≡ false → views.new ≡ views.old }
-        ensures told { holds_view self.old.slots views.old k ≡ true → IsTold (λ b. told b) (Some (1 + length (hits_in (under self.old.filter (all_out hits.items))))) (in_slot views.old (self.old.slots.first + k)) (in_slot views.new (self.old.slots.first + k)) }
+        ensures told { holds_view self.old.slots views.old k ≡ true → IsTold (λ most old new. ToldMore most (told old) (told new)) (Some (1 + length (hits_in (under self.old.filter (all_out hits.items))))) (in_slot views.old (self.old.slots.first + k)) (in_slot views.new (self.old.slots.first + k)) }
         ensures others { (i : ℕ) → (i ≡ self.old.slots.first + k → ⊥) → in_slot views.new i ≡ in_slot views.old i }
     {
         if !self.parts.slots.holds(views, k) {

@@ -52,8 +52,9 @@ pub fn compact<F: Files>(
     // If the files tell the records of a base, no game has changed.
     ensures same { IfErr result (λ error. IfChanged error (IfSome (F.seen files.old).games (λ games. (plain : PlainBase) → Represents base.old games plain → ⊥))) }
     ensures unchanged { OnErr result (base.new ≡ base.old) }
-    // Of the files the new games file alone may have changed.
+    // Of the files the new games file alone may have changed. None is begun that would be too long.
     ensures left { OnErr result (FreshAlone (F.seen files.old) (F.seen files.new)) }
+    ensures unbegun { IfErr result (λ error. error ≡ CompactError.Full → F.seen files.new ≡ F.seen files.old) }
     ensures at_end { IsEnd base.new.end (F.seen files.new) }
     ensures asks { F.asked files.new ≤ F.asked files.old + kept_len base.old.entries }
     ensures counts { F.faults files.old ≤ F.faults files.new }

@@ -54,29 +54,6 @@ pub around_back : {X : Type 0} (c : ℕ) (xs front back : List X) → c < length
 around_back c xs front back there long =
     ap (λ l. drop (c + 1) l) (tail_is (c + 1) (once c xs front) back (omega (arith, once_long c xs front there long, there))) ∙ drop_front (take (c + 1) (once c xs front)) back (c + 1) (head_long c xs front there long)
 
--- The other way round.
-abbrev later : {X : Type 0} → ℕ → List X → List X → List X
-later c xs back = put_mid (c + 1) (length xs - (c + 1)) xs back
-
-first_long : {X : Type 0} (c : ℕ) (xs : List X) → c < length xs → length (take (c + 1) xs) ≡ c + 1
-first_long c xs there = omega (arith, length-take (c + 1) xs, there)
-
-pub back_rest : {X : Type 0} (c : ℕ) (xs : List X) → between (c + 1) (length xs) xs ≡ drop (c + 1) xs
-back_rest c xs = between_to_end xs (c + 1) (length xs) (omega arith)
-
-pub back_front : {X : Type 0} (c : ℕ) (xs back : List X) → c < length xs → take c (put_mid (c + 1) (length xs - (c + 1)) xs back) ≡ take c xs
-back_front c xs back there =
-    ap (λ l. take c l) (tail_is (c + 1) xs back (omega (arith, there)))
-    ∙ (take-append-le c (take (c + 1) xs) back (omega (arith, first_long c xs there)) ∙ take_twice xs c (c + 1) (omega arith))
-
-pub then_front : {X : Type 0} (c : ℕ) (xs front back : List X) → length front ≡ c → take c (front ++ drop c (put_mid (c + 1) (length xs - (c + 1)) xs back)) ≡ front
-then_front c xs front back long = take_front front (drop c (later c xs back)) c long
-
-pub then_back : {X : Type 0} (c : ℕ) (xs front back : List X) → c < length xs → length front ≡ c → drop (c + 1) (front ++ drop c (put_mid (c + 1) (length xs - (c + 1)) xs back)) ≡ back
-then_back c xs front back there long =
-    drop-append-drop c (later c xs back) front (c + 1) (omega arith) long
-    ∙ (ap (λ l. drop (c + 1) l) (tail_is (c + 1) xs back (omega (arith, there))) ∙ drop_front (take (c + 1) xs) back (c + 1) (first_long c xs there))
-
 -- What is seen of them.
 pub seen_front : {X Y : Type 0} (see : X → Y) (c : ℕ) (xs front : List X) → take c xs ≡ front → take c (map see xs) ≡ map see front
 seen_front see c xs front is = take-map see c xs ∙ ap (λ l. map see l) is

@@ -27,13 +27,13 @@ begin_sound kept m held n seen begins same_kept same_tables is seats ends =
     subst (λ (l : List Seat). All (λ (seat : Seat). Sound (with_seat held.holding seat) seen) l) (sym seats) (All-replicate (λ (seat : Seat). Sound (with_seat held.holding seat) seen) n first here)
 
 pub begin_stands : (kept : Kept) (m : Holding) (held : DeskHolding) (clients : Clients) (seen : Seen) (created : Bool) (slots : List Slot) (base : Base) → Begins kept m → held.holding.kept ≡ m.kept → held.holding.tables ≡ m.tables
-    → held.seats ≡ replicate (cond clients.tagged 4 1) (first_seat (length kept.entries)) → held.clients ≡ clients → clients ≡ new_clients clients.tagged → ShowNone slots → IsOpen kept seen created base → DeskStands held seen (desk_begin clients.tagged created slots base)
+    → held.seats ≡ replicate (cond clients.tagged 4 1) (first_seat (length kept.entries)) → held.clients ≡ clients → clients ≡ new_clients clients.tagged → ShowNone slots → IsOpen kept seen created base → DeskStands held seen (desk_begin clients.tagged created seen.fresh slots base)
 begin_stands kept m held clients seen created slots base begins same_kept same_tables seats same_clients new none opened =
-    let st : Stands m seen (begin created slots base) = begins.stands seen created slots base none opened in
+    let st : Stands m seen (begin created seen.fresh slots base) = begins.stands seen created slots base none opened in
     record {
       seats = seats ∙ ap (λ (n : ℕ). replicate (cond clients.tagged 4 1) (first_seat n)) opened.represents.count;
       clients = same_clients ∙ new;
-      stands = λ seat. subst (λ (h : Holding). Stands h seen (record { shared = (begin created slots base).shared; seat = seat; slots = slots })) (ap₂ (λ k t. record { kept = k; tables = t; seat = seat }) (sym same_kept) (sym same_tables)) (any_seat m seen (begin created slots base) seat st);
+      stands = λ seat. subst (λ (h : Holding). Stands h seen (record { shared = (begin created seen.fresh slots base).shared; seat = seat; slots = slots })) (ap₂ (λ k t. record { kept = k; tables = t; seat = seat }) (sym same_kept) (sym same_tables)) (any_seat m seen (begin created seen.fresh slots base) seat st);
     }
 
 -- Who may speak has a seat.

@@ -6,7 +6,7 @@ use Rattle.std.proofs.lemmas.List.Elements.{All-head, All-tail}
 use Rattle.std.specs.Prelude.{nat_lt}
 use Rattle.base_files.specs.Seen.{Seen}
 use Rattle.filter_seat.specs.Seats.{FitsGames, Seat, first_seat}
-use Rattle.script_text.specs.Tasks.{Order, Task, task}
+use Rattle.script_text.specs.Tasks.{Order, Task}
 use Rattle.script_text.specs.declared.command.Command.TheVariants.{Watch}
 use Rattle.shell_commands.proofs.MarkLaws.{CountAlike, right_alike}
 use Rattle.shell_commands.proofs.SlotLaws.{task_others, task_stays}
@@ -18,7 +18,7 @@ use Rattle.shell_state.specs.Meeting.{tree_hits}
 use Rattle.shell_state.specs.Slots.{Slot, exactly_on, slot_at, table_of}
 use Rattle.shell_state.specs.Slots.Slot.{empty, idle, shows}
 use Rattle.shell_state.specs.Stands.{Holding, Stands, Tables}
-use Rattle.shell_state.specs.State.{Shared, State}
+use Rattle.shell_state.specs.State.{State}
 use Rattle.tree_live.specs.Slots.{in_slot}
 use Rattle.tree_live.specs.Views.{Told}
 use Rattle.tree_rows.specs.declared.row.Row.{Row}
@@ -193,10 +193,6 @@ stays : {B : Type 0} (rows : B → List Row) (told : B → Told) (d : Desk) (c :
     → ToOthers rows told d c t mid after → in_slot after i ≡ in_slot mid i
 stays rows told d c t mid after i none (none_shown alike same) = ap (λ views. in_slot views i) same
 stays rows told d c t mid after i none (all_shown shown) = shown.others i none
-
-unshown_stays : {B : Type 0} (rows : B → List Row) (told : B → Told) (d : Desk) (c : ℕ) (t : Task) (mid after : List (Option B)) (i : ℕ) → is_shown (slot_at d.slots i) ≡ false → ToOthers rows told d c t mid after → in_slot after i ≡ in_slot mid i
-unshown_stays rows told d c t mid after i none (none_shown alike same) = ap (λ views. in_slot views i) same
-unshown_stays rows told d c t mid after i none (all_shown shown) = shown.left i none
 
 -- A slot of another client.
 other_right : {B : Type 0} (rows : B → List Row) (told : B → Told) (d : Desk) (c o : ℕ) (t : Task) (mid after : List (Option B)) (i : ℕ) → (c ≡ o → ⊥) → o < number_of d.clients.tagged → is_own (window_of d.clients o) i ≡ true

@@ -42,19 +42,9 @@ use Rattle.shell_state.specs.declared.refusing.Refusal.{Refusal}
 use Rattle.view_commands.specs.declared.window.Window.{Window}
 use Rattle.desk_commands.proofs.SharedLaws.{Own, private-keeps, same-shared, state_of}
 use Rattle.desk_commands.specs.Kinds.{is_private, order_kind}
-use Rattle.desk_commands.specs.declared.kinds.Kind.TheVariants.{Private, Public, Adds, Moves}
+use Rattle.desk_commands.specs.declared.kinds.Kind.TheVariants.{Private, Public, Adds}
 
 -- ---- which commands are of a kind
-
-pub moves_are : (order : Order) → order_kind order ≡ Moves → ((game : ℕ) × ((word : List ℕ) × (order ≡ Ok (Replace game word)))) ⊎ (order ≡ Ok Compact)
-moves_are (Ok (Replace game word)) e = inl (game, (word, refl))
-moves_are (Ok Compact) e = inr refl
-moves_are _ e = absurd cc
-
-pub adds_are : (order : Order) → order_kind order ≡ Adds → ((word : List ℕ) × (order ≡ Ok (Import word))) ⊎ ((seed : ℕ) × ((games : ℕ) × (order ≡ Ok (Demo seed games))))
-adds_are (Ok (Import word)) e = inl (word, refl)
-adds_are (Ok (Demo seed games)) e = inr (seed, (games, refl))
-adds_are _ e = absurd cc
 
 -- ---- public commands leave the seat
 

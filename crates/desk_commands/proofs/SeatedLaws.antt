@@ -31,7 +31,7 @@ seat_is d c first own second split =
 
 -- Whoever sits in the machine.
 pub any_seat : (m : Holding) (seen : Seen) (s : State) (seat : Seat) → Stands m seen s → Stands (with_seat m seat) seen (record { shared = s.shared; seat = seat; slots = s.slots })
-any_seat m seen s seat st = record { games = st.games; told = st.told; base = st.base; unsaved = st.unsaved; carried = st.carried; tables = st.tables; seat = refl }
+any_seat m seen s seat st = record { games = st.games; told = st.told; base = st.base; unsaved = st.unsaved; carried = st.carried; tables = st.tables; seat = refl; fresh = st.fresh }
 
 -- The machine of the desk stands for the desk behind it.
 pub stands_behind : (d : Desk) (c : ℕ) (t : Task) (own : Seat) (first second : List Seat) (m : Holding) (seen : Seen) (held : DeskHolding) (before' behind' : List Seat)

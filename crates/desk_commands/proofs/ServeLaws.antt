@@ -1,5 +1,5 @@
 -- What a task owes, whether it was done or broken off.
-use Rattle.std.proofs.Common.{◌≡◌, ◌≤◌, ℕ, Bool, true, false, cond, List, [], Option, Some, None, Result, Ok, Err, OnOk, sym, ap, subst, ◌∙◌, arith, inl, inr}
+use Rattle.std.proofs.Common.{◌≡◌, ◌≤◌, ℕ, List, [], Option, Some, None, Result, Ok, Err, OnOk, sym, subst, arith, inl, inr}
 use Rattle.std.specs.Prelude.{IfErr, IfSome}
 use Rattle.base_core.specs.Base.{Base}
 use Rattle.base_files.proofs.Rising.{Rose-after}
@@ -11,7 +11,6 @@ use Rattle.base_files.specs.declared.faults.Stop.TheVariants as stop
 use Rattle.command_runs.proofs.Joining.{halted_all, halted_unsure}
 use Rattle.command_runs.specs.Counts.{Causes, Why, counts}
 use Rattle.command_runs.specs.Endings.{Halted, Serves}
-use Rattle.script_lines.specs.Clients.{Clients}
 use Rattle.script_text.specs.Tasks.{Order, Task, task}
 use Rattle.shell_commands.specs.Tasks.{BrokenTask, SettledTask, order_left, task_work, tasks}
 use Rattle.shell_state.proofs.CarryLaws.{settled_of}
@@ -27,8 +26,6 @@ use Rattle.command_runs.specs.Waiting.{Waiting}
 use Rattle.view_commands.specs.declared.window.Window.{Window}
 use Rattle.desk_commands.proofs.KindLaws.{carry_behind}
 use Rattle.desk_commands.proofs.TagLaws.{tag_broken, tag_causes, tag_unsaid}
-use Rattle.desk_commands.specs.Desk.{lines_to}
-use Rattle.desk_commands.specs.Doing.{client_tag}
 use Rattle.desk_commands.specs.Doing.{ended}
 use Rattle.command_runs.specs.Tagged.{tagged}
 
@@ -128,15 +125,6 @@ ended_causes (Err e) flushed o told faults later page f f' b b' r first last = t
 ended_causes (Ok x) (Err stop) o told faults later page f f' b b' r first last = causes_then x stop f f' b b' o.faults faults page.faults later first r.counts last
 ended_causes (Ok x) (Ok y) o told faults later page f f' b b' r first last =
     record { none_fell = record { files = first.none_fell.files; input = first.none_fell.input; output = omega (arith, r.counts, last.none_fell.output) }; why = tt }
-
--- ---- the text behind the tag of its client
-
-pub to_lines : (clients : Clients) (client : ℕ) (tag : List ℕ) (P : List ℕ → Type 0) (text : List ℕ) → clients.tagged ≡ true → tag ≡ client_tag client → P (tagged tag text) → P (lines_to clients client text)
-to_lines clients client tag P text tags is p =
-    subst P (ap (λ (l : List ℕ). tagged l text) is ∙ ap (λ (b : Bool). cond b (tagged (client_tag client) text) text) (sym tags)) p
-
-pub to_plain : (clients : Clients) (client : ℕ) (P : List ℕ → Type 0) (text : List ℕ) → clients.tagged ≡ false → P text → P (lines_to clients client text)
-to_plain clients client P text tags p = subst P (ap (λ (b : Bool). cond b (tagged (client_tag client) text) text) (sym tags)) p
 
 -- ---- memory that runs out behind a command
 

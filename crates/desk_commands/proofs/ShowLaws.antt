@@ -1,11 +1,11 @@
 -- The views of all clients behind a command of one.
-use Rattle.std.proofs.Common.{◌≡◌, ◌<◌, ◌≤◌, ◌+◌, ℕ, zero, suc, Bool, true, false, cond, ◌&&◌, ◌==◌, List, [], ◌∷◌, Option, Some, Result, Ok, Err, All, OnOk, get_or, set, slice_get, unwrap_or, length, refl, sym, ap, ap₂, subst, ◌∙◌, arith, ◌⊎◌, inl, inr}
+use Rattle.std.proofs.Common.{◌≡◌, ◌<◌, ◌+◌, ℕ, zero, suc, Bool, true, false, cond, ◌&&◌, ◌==◌, List, [], ◌∷◌, Option, Some, Result, Ok, Err, All, OnOk, get_or, set, slice_get, unwrap_or, length, refl, sym, ap, ap₂, subst, ◌∙◌, arith, ◌⊎◌, inl, inr}
 use Rattle.std.proofs.lemmas.Bool.{eqb-false, eqb-true}
 use Rattle.std.proofs.lemmas.List.{get_or-map, length-map}
 use Rattle.filter_seat.specs.Seats.{FitsGames, Seat, first_seat}
 use Rattle.filter_seat.specs.declared.seat.Seat.{Seat as SeatStruct}
 use Rattle.script_lines.specs.Clients.{Clients}
-use Rattle.shell_commands.proofs.MarkLaws.{CountAlike, right_alike}
+use Rattle.shell_commands.proofs.MarkLaws.{CountAlike}
 use Rattle.shell_state.specs.Slots.{Slot, slot_at}
 use Rattle.shell_state.specs.Slots.Slot.{empty, idle, shows}
 use Rattle.shell_state.specs.State.{Shared, State}
@@ -14,7 +14,7 @@ use Rattle.shell_state.specs.Meeting.{tree_hits}
 use Rattle.tree_live.specs.Slots.{in_slot}
 use Rattle.tree_live.specs.Views.{Told}
 use Rattle.tree_rows.specs.declared.row.Row.{Row}
-use Rattle.view_commands.specs.Views.{AreLeft, AreRight, AreToldAtMost, IsRight, IsToldAtMost, changes_of, is_own, is_shown, shown_hits, slot_hits}
+use Rattle.view_commands.specs.Views.{AreLeft, AreRight, AreToldAtMost, IsRight, IsToldAtMost, changes_of, is_own, is_shown, shown_hits}
 use Rattle.cell_core.specs.Packed.{Packed}
 use Rattle.desk_commands.proofs.OwnLaws.{is_one_of, not_own, number_of, one_of, own_is}
 use Rattle.desk_commands.specs.Desk.{Desk, seen_by, window_of}
@@ -35,25 +35,6 @@ same_hits s t board alike = ap₂ (λ (plies : List (Option ℕ)) (h : Shared). 
 pub count_alike : (s t : State) → Alike s t → CountAlike s t
 count_alike s t alike = λ board. sym (same_hits s t board alike)
 
-pub right_like : {B : Type 0} (rows : B → List Row) (s t : State) (slot : Slot) (view : Option B) → Alike s t → IsRight rows s slot view → IsRight rows t slot view
-right_like rows s t slot view alike is = right_alike rows s t slot view (count_alike s t alike) is
-
-pub changes_like : (s s' t t' : State) (slot : Slot) → Alike s t → Alike s' t' → changes_of s s' slot ≡ changes_of t t' slot
-changes_like s s' t t' empty alike later = refl
-changes_like s s' t t' idle alike later = refl
-changes_like s s' t t' (shows board) alike later = rw (same_hits s t board alike, same_hits s' t' board later) refl
-
-pub hits_like : (s t : State) (slot : Slot) → Alike s t → slot_hits s slot ≡ slot_hits t slot
-hits_like s t empty alike = refl
-hits_like s t idle alike = refl
-hits_like s t (shows board) alike = same_hits s t board alike
-
-pub like_refl : (s : State) → Alike s s
-like_refl s = record { shared = refl; filter = refl }
-
-pub like_sym : (s t : State) → Alike s t → Alike t s
-like_sym s t alike = record { shared = sym alike.shared; filter = sym alike.filter }
-
 -- A slot that shows nothing.
 pub right_unshown : {B : Type 0} (rows : B → List Row) (s t : State) (slot : Slot) (view : Option B) → is_shown slot ≡ false → IsRight rows s slot view → IsRight rows t slot view
 right_unshown rows s t empty view none is = is
@@ -65,9 +46,6 @@ pub told_behind : {B : Type 0} (told : B → Told) (most : ℕ) (before mid afte
 told_behind {B = B} told most before mid after same is = subst (λ (view : Option B). IsToldAtMost told most view after) same is
 
 -- ---- one client more is shown
-
-abbrev CanTell : ℕ → ℕ → Bool → Type 0
-CanTell by client b = (client == by) ≡ b
 
 pub shown_none : {B : Type 0} (rows : B → List Row) (told : B → Told) (by : ℕ) (d later : Desk) (views : List (Option B)) → AreShownTo rows told (but_one by 0) d later views views
 shown_none rows told by d later views = record {

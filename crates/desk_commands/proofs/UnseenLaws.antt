@@ -1,5 +1,6 @@
 -- Commands of a client that no other client sees in the trees that it watches.
 use Rattle.std.proofs.Common.{◌≡◌, ◌≤◌, ◌-◌, ℕ, zero, suc, Bool, true, false, cond, List, [], ◌∷◌, ◌++◌, Option, Some, None, Ok, length, replicate, unwrap_or, option_map, refl, ap, ◌∙◌, arith}
+use Rattle.std.specs.Prelude.{option_to_list}
 use Rattle.base_core.specs.Base.{Base, Held}
 use Rattle.filter_seat.specs.Following.{Moving, filter_after}
 use Rattle.filter_seat.specs.Seats.{Seat, first_seat}
@@ -9,7 +10,7 @@ use Rattle.script_text.specs.declared.command.Command.TheVariants.{Import, Repla
 use Rattle.shell_commands.proofs.MarkLaws.{CountAlike, marks_alike}
 use Rattle.shell_commands.proofs.RefusedLaws.{imported, made}
 use Rattle.shell_commands.specs.Tasks.{tasks}
-use Rattle.shell_state.specs.Meeting.{hit_if_in, listed_hit, tree_hits}
+use Rattle.shell_state.specs.Meeting.{hit_if_in, tree_hits}
 use Rattle.shell_state.specs.State.{State, with_index}
 use Rattle.sig_index.specs.declared.pos_query.PosQuery.{PosQuery}
 use Rattle.tree_rows.specs.declared.hit.GameHit.{GameHit}
@@ -53,7 +54,7 @@ none_in query (suc n) (held ∷ games) = none_in query n games
 hits_out : (query : PosQuery) (plies : List (Option ℕ)) (games more : List Held) (n : ℕ) → length plies ≤ length games → tree_hits query (plies ++ replicate n None) (games ++ more) ≡ tree_hits query plies games
 hits_out query [] games more n fit = none_in query n (games ++ more)
 hits_out query (ply ∷ plies) [] more n fit = absurd (omega (arith, fit))
-hits_out query (ply ∷ plies) (held ∷ games) more n fit = ap (λ (hits : List GameHit). listed_hit (hit_if_in query ply held) ++ hits) (hits_out query plies games more n (omega (arith, fit)))
+hits_out query (ply ∷ plies) (held ∷ games) more n fit = ap (λ (hits : List GameHit). option_to_list (hit_if_in query ply held) ++ hits) (hits_out query plies games more n (omega (arith, fit)))
 
 -- The filter of a seat, if a client has one.
 abbrev plies_of : Option Seat → List (Option ℕ)

@@ -26,11 +26,11 @@ pub record Desk : Type 0 where
   pub slots : List Slot
   pub clients : Clients
 
--- The desk in which a script begins over a base that was opened or created.
-abbrev pub desk_begin : Bool → Bool → List Slot → Base → Desk
-desk_begin tagged created slots base =
+-- The desk in which a script begins over a base that was opened or created, beside what the files tell of a new games file.
+abbrev pub desk_begin : Bool → Bool → Option (List ℕ) → List Slot → Base → Desk
+desk_begin tagged created fresh slots base =
     let seats : List Seat = replicate (if tagged then 4 else 1) (first_seat (length base.games)) in
-    record { shared = (begin created slots base).shared; seats = seats; slots = slots; clients = new_clients tagged }
+    record { shared = (begin created fresh slots base).shared; seats = seats; slots = slots; clients = new_clients tagged }
 
 -- ---- what one client sees
 

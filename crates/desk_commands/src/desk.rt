@@ -60,7 +60,7 @@ impl Desk {
         // If its base ends with the games file, it is sound. If its base was opened or created, it stands for the desk
         // in which a script begins.
         ensures sound { IfOk result (λ desk. (seen : Seen) → IsEnd base.end seen → DeskSound desk seen) }
-        ensures stands { IfOk result (λ desk. (seen : Seen) (created : Bool) (slots : List Slot) (plain : PlainBase) → ShowNone slots → IsOpen base seen created plain → DeskStands desk seen (desk_begin clients.tagged created slots plain)) }
+        ensures stands { IfOk result (λ desk. (seen : Seen) (created : Bool) (slots : List Slot) (plain : PlainBase) → ShowNone slots → IsOpen base seen created plain → DeskStands desk seen (desk_begin clients.tagged created seen.fresh slots plain)) }
     {
         let games = base.header().games;
         let seats = first_seats(alloc, games, clients.is_tagged())?;

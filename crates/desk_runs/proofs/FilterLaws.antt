@@ -168,9 +168,9 @@ in_replicated zero seat P has (suc i) = tt
 in_replicated (suc count) seat P has zero = has
 in_replicated (suc count) seat P has (suc i) = in_replicated count seat P has i
 
-pub script_fits : (tagged created : Bool) (slots : List Slot) (base : Base) (done : List Tagged) → AllFit (after_all desks (desk_begin tagged created slots base) done)
-script_fits tagged created slots base done =
+pub script_fits : (tagged created : Bool) (fresh : Option (List ℕ)) (slots : List Slot) (base : Base) (done : List Tagged) → AllFit (after_all desks (desk_begin tagged created fresh slots base) done)
+script_fits tagged created fresh slots base done =
     let games : ℕ = length base.games in
-    lines_fit (desk_begin tagged created slots base) done
-    (in_replicated (if tagged then 4 else 1) (first_seat games) (λ (seat : Seat). HasFilters (state_of_seat (desk_begin tagged created slots base).shared seat))
+    lines_fit (desk_begin tagged created fresh slots base) done
+    (in_replicated (if tagged then 4 else 1) (first_seat games) (λ (seat : Seat). HasFilters (state_of_seat (desk_begin tagged created fresh slots base).shared seat))
     (record { fit = record { filter = length-replicate games (Some 0); saved = All-nil _ }; few = omega arith }))

@@ -1,5 +1,5 @@
 //! Laws of the definitions.
-ghost use Rattle.std.specs.Prelude.{◌≡◌, ◌<◌, ℕ, Bool, List, Some, Ok, length, slice_index_or, true};
+ghost use Rattle.std.specs.Prelude.{◌≡◌, ◌<◌, ℕ, Bool, List, Option, Some, Ok, length, slice_index_or, true};
 ghost use Rattle.base_core.specs.Base.{Base};
 ghost use Rattle.client_desk.specs.Changes.{moving_of};
 ghost use Rattle.client_desk.specs.Desks.{Echoed};
@@ -25,7 +25,7 @@ pub fn clients_are_isolated()
 /// A law: the filters of every client at a desk have an entry for each game, and each client keeps at most eight, whatever lines are said.
 pub fn filters_of_all_clients_fit()
     ensures line { (desk : Desk) (t : Tagged) → AllFit desk → AllFit (desks.after desk t) }
-    ensures script { (tagged created : Bool) (slots : List Slot) (base : Base) (done : List Tagged) → AllFit (after_all desks (desk_begin tagged created slots base) done) }
+    ensures script { (tagged created : Bool) (fresh : Option (List ℕ)) (slots : List Slot) (base : Base) (done : List Tagged) → AllFit (after_all desks (desk_begin tagged created fresh slots base) done) }
 {}
 
 /// A law: a line that is answered by an error line leaves a desk as it was, but for who may speak, and but for `import` and `demo`, which only add

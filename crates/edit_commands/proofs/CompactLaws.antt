@@ -31,7 +31,7 @@ use Rattle.filter_seat.specs.SavedFilters.{kept_renumbered}
 use Rattle.filter_seat.specs.Seats.{each_filter}
 use Rattle.filter_seat.specs.declared.saved.SavedFilter.{SavedFilter}
 use Rattle.edit_commands.specs.Indexed.{renumbered_index}
-use Rattle.shell_state.proofs.CarryLaws.{beside_meant, carry_of}
+use Rattle.shell_state.proofs.CarryLaws.{beside_meant, may_carry}
 use Rattle.shell_state.proofs.IndexLaws.{index_is}
 use Rattle.shell_state.proofs.PriceLaws.{none_looked}
 use Rattle.shell_state.proofs.Quietly.{held_by, tables_with}
@@ -258,7 +258,7 @@ done_beside holding new seen seen' s st is means compacts =
     } in
     let again : OpensAgain now.index now.names now.games (compacted s.shared.base) =
     (known_told seen' (λ index names games. (base : Base) → Represents new games base → OpensAgain index names games base) now means) (compacted s.shared.base) there in
-    beside_meant new seen' (compacted s.shared.base) true now there.names again.means (λ sound. again.faultless)
+    beside_meant new seen' (compacted s.shared.base) true now there.names again.means (λ sound. again.whole)
 
 -- The slots are moved so.
 abbrev pub AreMoved : List (Option ℕ) → List (Option Watched) → List (Option Watched) → Type 0
@@ -282,6 +282,7 @@ done_stands old new index watches watches' filter saved seen seen' s st is means
       tables = ap₂ (λ (x : Option Index) (hits : List (Option HitTable)). record { index = x; hits = hits })
           (ap (option_map (renumbered_index (numbering old.entries).to)) (index_is st) ∙ index_left (numbering old.entries).to s.shared.base s.shared.index to)
           (slots_left (numbering old.entries).to s.shared.base watches watches' s.slots to moved.0 moved.1 (ap (λ (t : Tables). t.hits) st.tables));
+      fresh = ap (λ (x : Seen). x.fresh) is.put ∙ ap (λ (o : Option (List ℕ)). told_instead [] (option_map (new_games old.entries) o)) st.told;
     }
 
 pub compact_stands : (old new : Kept) (index : Option Index) (watches watches' : List (Option Watched)) (filter : List (Option ℕ)) (saved : List SavedFilter) (seen seen' : Seen) (s : State)
@@ -314,20 +315,8 @@ fresh_contents seen seen' left c = record {
 fresh_beside : (kept : Kept) (seen seen' : Seen) (unsaved : Bool) (carried : Option Carried) → FreshAlone seen seen' → AreBeside kept seen unsaved carried → AreBeside kept seen' unsaved carried
 unfolding fresh_contents
 fresh_beside kept seen seen' unsaved (Some base) left b =
-    record { contents = fresh_contents seen seen' left b.contents; carries = b.carries; names = b.names; means = b.means; opens = b.opens }
+    record { contents = fresh_contents seen seen' left b.contents; carries = b.carries; names = b.names; means = b.means; whole = b.whole }
 fresh_beside kept seen seen' unsaved None left b = (ap (λ (x : Seen). x.index) left ∙ b.0, ap (λ (x : Seen). x.names) left ∙ b.1)
-
--- The new games file is no part of a state.
-pub fresh_stands : (holding : Holding) (seen seen' : Seen) (s : State) → FreshAlone seen seen' → Stands holding seen s → Stands holding seen' s
-fresh_stands holding seen seen' s left st = record {
-  games = st.games;
-  told = ap (λ (x : Seen). x.games) left ∙ st.told;
-  base = st.base;
-  seat = st.seat;
-  unsaved = st.unsaved;
-  carried = fresh_beside holding.kept seen seen' s.shared.unsaved s.shared.carried left st.carried;
-  tables = st.tables;
-}
 
 -- An error line comes where the new games file would be too long, and nothing changed.
 over_by : (e : CompactError) (kept : Kept) (told : Option (List ℕ)) (buf line : List ℕ) → WhyNotCompacted kept told buf e → uncompacted e ≡ Ok line → (longest_file < new_end kept.entries) × (line ≡ refusal_line (Full File))
@@ -336,12 +325,19 @@ over_by compacting.Failed kept told buf line why ends = cc
 over_by compacting.Memory kept told buf line why ends = cc
 over_by (compacting.Changed game sig found) kept told buf line why ends = cc
 
+full_unchanged : (e : CompactError) (seen seen' : Seen) (line : List ℕ) → (e ≡ compacting.Full → seen' ≡ seen) → uncompacted e ≡ Ok line → seen' ≡ seen
+full_unchanged compacting.Full seen seen' line unbegun ends = unbegun refl
+full_unchanged compacting.Failed seen seen' line unbegun ends = cc
+full_unchanged compacting.Memory seen seen' line unbegun ends = cc
+full_unchanged (compacting.Changed game sig found) seen seen' line unbegun ends = cc
+
 pub full_stands : (old : Kept) (tables : Tables) (filter : List (Option ℕ)) (saved : List SavedFilter) (seen seen' : Seen) (s : State) (e : CompactError) (told : Option (List ℕ)) (buf line : List ℕ) → Stands (held_by old tables filter saved) seen s
-    → FreshAlone seen seen' → WhyNotCompacted old told buf e → uncompacted e ≡ Ok line → Stands (held_by old tables filter saved) seen' (compact_after s)
-full_stands old tables filter saved seen seen' s e told buf line st left why ends =
+    → (e ≡ compacting.Full → seen' ≡ seen) → WhyNotCompacted old told buf e → uncompacted e ≡ Ok line → Stands (held_by old tables filter saved) seen' (compact_after s)
+full_stands old tables filter saved seen seen' s e told buf line st unbegun why ends =
     let over = over_by e old told buf line why ends in
     let P : Bool → Type 0 = λ b. Stands (held_by old tables filter saved) seen' (if b then compacted_state s else s) in
-    subst P (sym (within_false old st.games s.shared.base st.base over.0)) (fresh_stands (held_by old tables filter saved) seen seen' s left st)
+    subst P (sym (within_false old st.games s.shared.base st.base over.0))
+    (subst (λ (x : Seen). Stands (held_by old tables filter saved) x s) (sym (full_unchanged e seen seen' line unbegun ends)) st)
 
 pub full_says : (old : Kept) (tables : Tables) (filter : List (Option ℕ)) (saved : List SavedFilter) (seen : Seen) (s : State) (e : CompactError) (told : Option (List ℕ)) (buf line : List ℕ) → Stands (held_by old tables filter saved) seen s
     → WhyNotCompacted old told buf e → uncompacted e ≡ Ok line → line ≡ compact_text s
@@ -383,7 +379,8 @@ compact_device e h kept tables filter saved seen s st changed (inr ends) = devic
 -- ---- what the files carry where it is broken off.
 
 pub fresh_carry : (holding : Holding) (seen seen' : Seen) (s : State) (leaves : Option (Base → Base)) → FreshAlone seen seen' → Stands holding seen s → StillCarry seen' s leaves
-fresh_carry holding seen seen' s leaves left st = carry_of holding seen' s leaves (fresh_stands holding seen seen' s left st)
+fresh_carry holding seen seen' s leaves left st =
+    may_carry holding.kept seen' s.shared.unsaved s.shared.carried leaves s.shared.base (fresh_beside holding.kept seen seen' s.shared.unsaved s.shared.carried left st.carried)
 
 done_may : (kept : Kept) (seen : Seen) (carried : Option Carried) (base : Base) → Beside kept seen false (record { base = compacted base; sound = true }) → MayCarry seen carried (Some compacted) base
 done_may kept seen (Some own) base b = inr (b.contents, b.carries)

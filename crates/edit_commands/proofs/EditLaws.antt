@@ -60,6 +60,7 @@ quiet_edit words edit game old new tables filter saved work line after says ther
         tables = tables_are tables s.shared.index s.slots s.shared.base.games (edit s.shared.base).games st.tables
             (index_stays old new st.games s.shared.base (edit s.shared.base) _ s.shared.index st.base (does st.games s.shared.base st.base) heads.extents refl)
             (hits s.shared.base);
+        fresh = st.fresh;
       } in
       subst (Stands (held_by new tables filter saved) seen) (ap (edited_there edit s) (sym held.1) ∙ sym (after s)) standing;
   text = λ (seen : Seen) (s : State) (st : Stands (held_by old tables filter saved) seen s).

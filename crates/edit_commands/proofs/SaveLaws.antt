@@ -65,8 +65,9 @@ save_stands kept tables filter saved seen seen' s st is means =
       base = there;
       seat = st.seat;
       unsaved = refl;
-      carried = beside_meant (clean kept) seen' s.shared.base true now there.names again.means (λ sound. again.faultless);
+      carried = beside_meant (clean kept) seen' s.shared.base true now there.names again.means (λ sound. again.whole);
       tables = st.tables;
+      fresh = ap (λ (x : Seen). x.fresh) is.replaced ∙ st.fresh;
     }
 
 -- ---- where it is broken off

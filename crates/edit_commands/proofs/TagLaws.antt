@@ -117,6 +117,7 @@ tag_stands old new index watches watches' hits filter saved seen seen' buf s i t
           (index_is st ∙ ap (λ (games : List GameTree). option_map (index_of games) s.shared.index) (sym (tagged_games i tag s.shared.base held.0 held.1)))
           (slots_tagged new (st.games ++ bytes) s.shared.base i tag held.0 hits watches watches' s.slots held.1 (omega (arith, there, st.base.count)) stood count again follow
           (ap (λ (t : Tables). t.hits) st.tables));
+      fresh = ap (λ (x : Seen). x.fresh) is.appended ∙ st.fresh;
     } in
     subst (Stands (held_by new (tables_with index watches') filter saved) seen') (ap (λ (r : Option (List ℕ)). unless_refused r s (tagged i tag s.shared.base)) (sym none) ∙ ap (tagged_there i tag s) (sym held.1)) standing
 

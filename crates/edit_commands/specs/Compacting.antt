@@ -1,7 +1,7 @@
 -- Compacting the base. This project's own.
 use Rattle.game_filter.specs.Renumbering.{renumbered}
 use Rattle.std.specs.Fmt.{decimal}
-use Rattle.std.specs.Prelude.{filter, ℕ, List, map, Option, nat_le, Bool, Some, if◌then◌else◌, ◌++◌, codes, length, sum_by, not, ◌≡◌, ◌⊎◌}
+use Rattle.std.specs.Prelude.{filter, ℕ, List, [], map, Option, nat_le, Bool, Some, if◌then◌else◌, ◌++◌, codes, length, sum_by, not, ◌≡◌, ◌⊎◌}
 use Rattle.base_core.specs.Base.{Base}
 use Rattle.base_core.specs.Compacted.{compacted}
 use Rattle.base_core.specs.Represents.{Kept}
@@ -25,9 +25,10 @@ abbrev pub is_within : Base → Bool
 is_within base = nat_le (compacted base).end longest_file
 
 -- compact: the undeleted games stay, the filters and the index move with them, and the files carry the base that is left.
+-- The new games file has become the current one, so that none is begun.
 abbrev pub compacted_state : State → State
 compacted_state s =
-    record s { shared = saved_whole s.shared (compacted s.shared.base); seat = each_filter (renumbered (numbers_of s.shared.base)) s.seat }
+    record s { shared = record (saved_whole s.shared (compacted s.shared.base)) { fresh = Some [] }; seat = each_filter (renumbered (numbers_of s.shared.base)) s.seat }
 
 abbrev pub compact_after : State → State
 compact_after s = if is_within s.shared.base then compacted_state s else s

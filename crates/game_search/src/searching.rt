@@ -56,6 +56,7 @@ pub fn search<Q: Question, G: Games, F: Files>(
 }
 
 // Joins the first matching ply of one game.
+#[inline(always)]
 fn search_game<Q: Question, G: Games, F: Files>(
     games: &G,
     i: u32,
@@ -87,39 +88,56 @@ fn search_game<Q: Question, G: Games, F: Files>(
     if !op.looks_at(old) {
         return Ok(());
     }
-    let first = first_in(games, i, q, files, buf)?;
-    // A game that was out and stays out is not written.
+    match q.unread(i, &games.brief(i)) {
+        Some(first) => {
+            join(filter, i, old, first);
+            Ok(())
+        }
+        None => join_read(games, i, q, old, filter, files, buf),
+    }
+}
+
+// Gives game `i` another entry in place of this one. A game that was out and stays out is not written.
+#[inline(always)]
+fn join(filter: &mut Filter, i: u32, old: Option<u32>, first: Option<u32>)
+    requires game { slice_get filter.old i ≡ Some old }
+    ensures joined { filter.new ≡ slice_set filter.old i first }
+{
     if old.is_some() || first.is_some() {
         filter.set(i, first);
     }
-    Ok(())
 }
 
-// The first matching ply of one game, whose record is read if it has to be.
-fn first_in<Q: Question, G: Games, F: Files>(
+// The same with the first matching ply of the game, whose record is read into `buf`. It stands apart, so that no game that is not read has
+// room cleared for its end.
+#[inline(never)]
+fn join_read<Q: Question, G: Games, F: Files>(
     games: &G,
     i: u32,
     q: &mut Q,
+    old: Option<u32>,
+    filter: &mut Filter,
     files: &mut F,
     buf: &mut [u8],
-) -> Result<Option<u32>, FetchError>
+) -> Result<(), FetchError>
     requires game { i < length (G.sigs games.now) }
+    requires old { slice_get filter.old i ≡ Some old }
     requires room { 131072 ≤ length buf.old }
     requires within { AreWithin (F.seen files.old).known (G.extents games.now) }
-    ensures first { (unread : Unread) (told : List ℕ) (list : List GameTree) (game : GameTree) → Q.tells q.old unread → (F.seen files.old).games ≡ Some told → Holds told (G.extents games.now) (G.sigs games.now) list → AreRight unread (Q.first q.old) (G.sigs games.now) list → slice_get list i ≡ Some game → IfOk result (λ ply. ply ≡ Q.first q.old game) }
-    ensures skipped { (unread : Unread) (sig : Sig) → Q.tells q.old unread → slice_get (G.sigs games.now) i ≡ Some sig → unread.reads i sig ≡ false → IfOk result (λ ply. ply ≡ unread.ply i) }
+    ensures joined { (told : List ℕ) (list : List GameTree) (game : GameTree) → (F.seen files.old).games ≡ Some told → Holds told (G.extents games.now) (G.sigs games.now) list → slice_get list i ≡ Some game → OnOk result (filter.new ≡ slice_set filter.old i (Q.first q.old game)) }
+    ensures entry { OnOk result ((ply : Option ℕ) × (filter.new ≡ slice_set filter.old i ply)) }
+    ensures left { OnErr result (filter.new ≡ filter.old) }
     ensures same { q.new ≡ q.old }
     ensures unchanged { F.seen files.new ≡ F.seen files.old }
-    ensures asks { (unread : Unread) (sig : Sig) → Q.tells q.old unread → slice_get (G.sigs games.now) i ≡ Some sig → F.asked files.new ≤ F.asked files.old + (if unread.reads i sig then (extent_in (G.extents games.now) i).len else 0) }
-    ensures asked { (unread : Unread) (sig : Sig) → Q.tells q.old unread → slice_get (G.sigs games.now) i ≡ Some sig → OnOk result (raised (F.asked files.old) (if unread.reads i sig then (extent_in (G.extents games.now) i).len else 0) ≤ F.asked files.new) }
+    ensures asks { F.asked files.new ≤ F.asked files.old + (extent_in (G.extents games.now) i).len }
+    ensures asked { OnOk result (raised (F.asked files.old) (extent_in (G.extents games.now) i).len ≤ F.asked files.new) }
     ensures counts { F.faults files.old ≤ F.faults files.new }
     ensures cause { IfErr result (λ e. HasFetchCause e (G.sigs games.now) (G.extents games.now) (F.seen files.old).games buf.new (F.faults files.old) (F.faults files.new)) }
     ensures own { IfErr result (λ e. Names e i) }
 {
-    match q.unread(i, &games.brief(i)) {
-        Some(ply) => Ok(ply),
-        None => first_read(games, i, q, files, buf),
-    }
+    let first = first_read(games, i, q, files, buf)?;
+    join(filter, i, old, first);
+    Ok(())
 }
 
 // The first matching ply of one game, whose record is read into `buf`.

@@ -8,6 +8,7 @@ pub mod TagListLemmas
 pub mod TagEditLemmas
 pub mod BuildingLemmas
 pub mod KeptLemmas
+pub mod OpenLaws
 pub mod CountLemmas
 pub mod CommentLemmas
 pub mod MovetextLemmas

@@ -1,6 +1,6 @@
 -- A tree while its items are read one by one: the lines that are open, each with its last move apart, since what follows
 -- may still belong to it (this project's own).
-use Rattle.std.specs.Prelude.{◌≡◌, ◌≢◌, ℕ, IsSome, List, [], ◌∷◌, ◌++◌, Option, Some, None, option_map, refl}
+use Rattle.std.specs.Prelude.{◌≡◌, ◌≢◌, ℕ, ◌-◌, IsSome, List, [], ◌∷◌, ◌++◌, length, take, slice_get, Option, Some, None, option_map, refl}
 use Rattle.std.specs.Coded.{Coded, code_by, coded×, coded_ℕ, coded_list, coded_option}
 use Rattle.cell_core.specs.declared.step.Move.{Move}
 use Rattle.game_tree.specs.Tree.{Line, Branches, none, more, Played, Variation, line_of}
@@ -19,6 +19,10 @@ pub record Open : Type 0 where
 pub record Building : Type 0 where
   pub current : Open
   pub outer : List Open
+
+-- The open line of these moves.
+abbrev pub open_of : Option (List ℕ) → List Played → Open
+open_of lead line = record { lead = lead; done = take (length line - 1) line; last = slice_get line (length line - 1) }
 
 -- A line of which nothing was read.
 abbrev pub fresh : Open

@@ -1,34 +1,32 @@
 //! A line while its items are read.
-ghost use Rattle.std.specs.Prelude.{◌≡◌, ◌↔◌, ◌++◌, ◌∷◌, [], List, ℕ, Option, Some, IsSome, IfOk, OnOk, IsTrue};
-ghost use Rattle.game_tree.specs.Tree.{Variation, line_of};
-ghost use Rattle.game_tree.specs.Building.{fresh, bare, with_move, with_nag, with_comment, with_variation, read_line, and_last};
+ghost use Rattle.std.specs.Prelude.{◌≡◌, ◌↔◌, IsSome, IfOk, OnOk, IsTrue};
+ghost use Rattle.game_tree.specs.Building.{fresh, bare, with_move, with_nag, with_comment, with_variation, read_line};
 
 use super::node::{Branch, Node, join};
 use cell_core::{Move, Text};
 use std::alloc::{AllocError, Global};
 use std::marker::Model;
 
-/// A line while it is read. The last move stands apart, since what follows may still belong to it. After want of memory it
-/// is spent.
+/// A line while it is read. What follows may still belong to its last move, which contracts see apart. After want of memory it is
+/// spent.
 #[derive(Debug, Drop)]
 pub(crate) struct OpenLine {
     lead: Option<Text>,
-    done: Vec<Node>,
-    last: Option<Node>,
+    line: Vec<Node>,
 }
 
 impl Model for OpenLine {
-    ghost use Rattle.std.specs.Prelude.{List, ℕ};
-    ghost use Rattle.game_tree.specs.Building.{Open, coded_open, variation_of};
+    ghost use Rattle.game_tree.specs.Building.{Open, coded_open, open_of};
     ghost use Rattle.game_tree.specs.Kept.{IsVariation};
+    ghost use Rattle.game_tree.specs.Tree.{line_of};
 
     ghost Value = { Open };
 
     ghost coded = { coded_open };
 
-    ghost view = { λ o. record { lead = o.lead; done = o.done.items; last = o.last } };
+    ghost view = { λ o. open_of o.lead o.line.items };
 
-    ghost invariant = { λ o. IsVariation (variation_of (record { lead = o.lead; done = o.done.items; last = o.last })) };
+    ghost invariant = { λ o. IsVariation (record { lead = o.lead; line = line_of o.line.items }) };
 }
 
 impl OpenLine {
@@ -38,8 +36,7 @@ impl OpenLine {
     {
         OpenLine {
             lead: None,
-            done: Vec::new(alloc),
-            last: None,
+            line: Vec::new(alloc),
         }
     }
 
@@ -47,17 +44,14 @@ impl OpenLine {
     pub(crate) fn has_move(&self) -> bool
         ensures has { IsTrue result ↔ IsSome self.now.last }
     {
-        self.last.is_some()
+        !self.line.is_empty()
     }
 
     /// Adds a move.
     pub(crate) fn play(&mut self, alloc: Global, mv: Move) -> Result<(), AllocError>
         ensures played { OnOk result (self.new ≡ with_move (bare mv) self.old) }
     {
-        let Some(before) = self.last.replace(Node::new(alloc, mv)) else {
-            return Ok(());
-        };
-        self.done.push(before)?;
+        self.line.push(Node::new(alloc, mv))?;
         Ok(())
     }
 
@@ -65,7 +59,7 @@ impl OpenLine {
     pub(crate) fn nag(&mut self, nag: u8) -> Result<(), AllocError>
         ensures nag_added { OnOk result (self.new ≡ with_nag nag self.old) }
     {
-        if let Some(node) = &mut self.last {
+        if let Some(node) = self.line.last_mut() {
             return node.add_nag(nag);
         }
         Ok(())
@@ -78,7 +72,7 @@ impl OpenLine {
         if text.is_empty() {
             return Ok(());
         }
-        if let Some(node) = &mut self.last {
+        if let Some(node) = self.line.last_mut() {
             return node.add_comment(text);
         }
         self.lead = Some(join(self.lead.take(), text)?);
@@ -89,7 +83,7 @@ impl OpenLine {
     pub(crate) fn vary(&mut self, branch: Branch) -> Result<(), AllocError>
         ensures varied { OnOk result (self.new ≡ with_variation branch self.old) }
     {
-        if let Some(node) = &mut self.last {
+        if let Some(node) = self.line.last_mut() {
             return node.add_variation(branch);
         }
         Ok(())
@@ -100,14 +94,7 @@ impl OpenLine {
         ensures lead { IfOk result (λ branch. branch.lead ≡ self.lead) }
         ensures line { IfOk result (λ branch. branch.line ≡ read_line self) }
     {
-        let OpenLine {
-            lead,
-            done: mut line,
-            last,
-        } = self;
-        if let Some(node) = last {
-            line.push(node)?;
-        }
+        let OpenLine { lead, line } = self;
         Ok(Branch { lead, line })
     }
 }

@@ -63,6 +63,7 @@ built_stands kept old new filter saved seen seen' s depth st same is = record {
   unsaved = st.unsaved;
   carried = subst (λ (x : Seen). AreBeside kept x s.shared.unsaved s.shared.carried) (sym same) st.carried;
   tables = ap₂ (λ (x : Index) (hits : List (Option HitTable)). record { index = Some x; hits = hits }) is (ap (λ (t : Tables). t.hits) st.tables);
+  fresh = ap (λ (t : Seen). t.fresh) same ∙ st.fresh;
 }
 
 -- And without one.
@@ -76,6 +77,7 @@ dropped_stands kept old filter saved seen s st = record {
   unsaved = st.unsaved;
   carried = st.carried;
   tables = ap (λ (t : Tables). record { index = None; hits = t.hits }) st.tables;
+  fresh = st.fresh;
 }
 
 pub dropped_sound : (kept : Kept) (old : Tables) (filter : List (Option ℕ)) (saved : List SavedFilter) (seen : Seen)

@@ -14,8 +14,7 @@ is_too_big s depth = index_is_full (Some depth) (length s.shared.base.games)
 
 -- The base has an index to this depth, in the place of an older one, or none.
 abbrev pub index_after : State → Option ℕ → State
-index_after s (Some depth) = if is_too_big s depth then s else with_index s (Some depth)
-index_after s None = with_index s None
+index_after s depth = if index_is_full depth (length s.shared.base.games) then s else with_index s depth
 
 -- `index D E entries`: the depth, and how many hits there are on all boards.
 abbrev pub index_line : ℕ → ℕ → List ℕ
@@ -29,9 +28,7 @@ index_text s (Some depth) = if is_too_big s depth then too_big_line else index_l
 index_text s None = codes "index off\n"
 
 -- The records of all games are read when an index is built.
-abbrev pub index_price : Option ℕ → List Look → List (Option ℕ) → ℕ
-index_price (Some depth) looks plies = sum_by (λ look. look.len) looks
-index_price None looks plies = 0
-
 abbrev pub index_work : Option ℕ → Work
-index_work depth = record (reading (λ s. index_after s depth) (λ s. index_text s depth) (index_price depth)) { files = is_some depth }
+index_work depth =
+    let price : List Look → List (Option ℕ) → ℕ = λ looks plies. if is_some depth then sum_by (λ look. look.len) looks else 0 in
+    record (reading (λ s. index_after s depth) (λ s. index_text s depth) price) { files = is_some depth }

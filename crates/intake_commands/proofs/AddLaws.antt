@@ -171,6 +171,7 @@ replace_stands old new tables tables' filter filter' saved saved' seen seen' s i
       unsaved = unsaved;
       carried = beside_grown old new seen seen' bytes s.shared.unsaved s.shared.carried is names st.carried;
       tables = indexed;
+      fresh = ap (λ (x : Seen). x.fresh) is ∙ st.fresh;
     } in
     subst (Stands (held_by new tables' filter' saved') seen') (ap (state_with s i) (sym one)) standing
 

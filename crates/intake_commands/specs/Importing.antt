@@ -101,8 +101,7 @@ first_faulty number (Bad fault ∷ items) = Some (faulty_line number fault)
 
 -- A game that can take the place of another one, or the error line.
 abbrev pub unless_line : Option (List ℕ) → Result (Head × GameTree) (List ℕ) → Result (Head × GameTree) (List ℕ)
-unless_line (Some line) game = Err line
-unless_line None game = game
+unless_line line game = option_map_or Err line game
 
 abbrev pub the_one : Base → List Item → Result (Head × GameTree) (List ℕ)
 the_one base (Good head game ∷ []) = unless_line (refusal_of base head game) (Ok (head, game))

@@ -27,7 +27,7 @@ use Rattle.pgn_read.specs.declared.step.End.{End}
 use Rattle.pgn_read.specs.declared.step.End.TheVariants as end
 use Rattle.pgn_read.specs.declared.step.Step.{Step as Does}
 use Rattle.pgn_read.specs.declared.step.Step.TheVariants as does
-use Rattle.pgn_read.specs.declared.turn.Turn.{Turn}
+use Rattle.pgn_read.specs.Turns.{Turn}
 use Rattle.chess_text.specs.SanAnswer.{only_of, candidates, fits_now, shape_answer, san_answer}
 use Rattle.chess_text.specs.FenAnswer.{fen_answer}
 use Rattle.pgn_read.specs.Token.{Token}

@@ -7,6 +7,7 @@ pub mod NameLaws
 pub mod FieldLaws
 pub mod EscapeLaws
 pub mod HeadLaws
+pub mod TurnLaws
 pub mod LegalLaws
 pub mod ItemLaws
 pub mod ReadLaws

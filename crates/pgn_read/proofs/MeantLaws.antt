@@ -20,7 +20,7 @@ use Rattle.game_tree.specs.TagName.{is_among, roster_names}
 use Rattle.game_tree.proofs.MovetextLemmas.{built-items_of}
 use Rattle.pgn_read.specs.declared.item.GameWhat.TheVariants as what
 use Rattle.pgn_read.specs.declared.item.Item.TheVariants.{Good}
-use Rattle.pgn_read.specs.declared.turn.Turn.{Turn}
+use Rattle.pgn_read.specs.Turns.{Turn}
 use Rattle.pgn_read.specs.Items.{all_spots, by_effect, effect_at, ended, first_token, item_from, next, next_item}
 use Rattle.pgn_read.specs.Meant.{IsMeant, all_said, move_said, said, said_at, said_before}
 use Rattle.pgn_read.specs.Reading.{Effect, Reading, at_tag, closed_to, effect, ends_before, ends_behind, game_of, goes_on, has_move, has_tag, is_faulty, is_inside, is_next_game, tag_effect, turn_at, unread, by_answer, played, with_tag, starting}

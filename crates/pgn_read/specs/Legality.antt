@@ -5,7 +5,7 @@ use Rattle.chess_laws.specs.Step.{Step, stepped}
 use Rattle.game_tree.specs.Tree.{Played, depth_within}
 use Rattle.game_tree.specs.Building.{Open, Building}
 use Rattle.game_tree.specs.Legal.{IsComment, AreLegalBranches, deepest}
-use Rattle.pgn_read.specs.declared.turn.Turn.{Turn}
+use Rattle.pgn_read.specs.Turns.{Turn}
 use Rattle.pgn_read.specs.declared.step.End.{End}
 use Rattle.pgn_read.specs.declared.step.End.TheVariants as end
 use Rattle.pgn_read.specs.declared.step.Step.{Step as Does}

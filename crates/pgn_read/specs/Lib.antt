@@ -9,6 +9,7 @@ pub mod Said
 pub mod Text
 pub mod Field
 pub mod Heads
+pub mod Turns
 pub mod Reading
 pub mod ReadingCode
 pub mod Items

@@ -15,7 +15,7 @@ use Rattle.game_tree.specs.TagList.{is_named}
 use Rattle.game_tree.specs.TagName.{is_among, roster_names}
 use Rattle.pgn_read.specs.declared.item.GameWhat.{GameWhat}
 use Rattle.pgn_read.specs.declared.item.GameWhat.TheVariants as what
-use Rattle.pgn_read.specs.declared.turn.Turn.{Turn}
+use Rattle.pgn_read.specs.Turns.{Turn}
 use Rattle.chess_text.specs.SanAnswer.{san_answer}
 use Rattle.chess_text.specs.FenAnswer.{fen_answer}
 use Rattle.pgn_read.specs.Token.{Token}

@@ -6,15 +6,14 @@ use Rattle.chess_laws.specs.contracts.setup.Setup as setup
 use Rattle.game_tree.specs.declared.head.Tag.{Tag}
 use Rattle.game_tree.specs.contracts.head.Tag as tag
 use Rattle.game_tree.specs.Building.{Building, coded_building}
-use Rattle.pgn_read.specs.declared.turn.Turn.{Turn}
-use Rattle.pgn_read.specs.contracts.turn.Turn as turn
+use Rattle.pgn_read.specs.Turns.{Turn, coded_turn}
 use Rattle.pgn_read.specs.Reading.{Reading}
 
 abbrev pub coded_reading : Coded Reading
 coded_reading =
     code_by (List Tag × (Bool × (Setup × (Building × (Turn × List Turn)))))
     (coded× (coded_list tag.the_row.coded) (coded× coded_bool (coded× setup.the_row.coded
-    (coded× coded_building (coded× turn.the_row.coded (coded_list turn.the_row.coded))))))
+    (coded× coded_building (coded× coded_turn (coded_list coded_turn))))))
     (λ r. (r.tags, (r.in_moves, (r.start, (r.moves, (r.turn, r.outer))))))
     (λ t. record {
       tags = t.0;

@@ -278,7 +278,7 @@ impl Reading {
         ensures opened { OnOk result (self.new ≡ opened self.old) }
         ensures balanced { OnOk result (IsBalanced self.new) }
     {
-        let inner = Turn::at(&self.turn.before);
+        let inner = Turn::at(&self.turn.before());
         let round = replace(&mut self.turn, inner);
         self.in_moves = true;
         self.outer.push(round)?;

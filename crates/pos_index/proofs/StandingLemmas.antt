@@ -1,6 +1,6 @@
 -- The hits of one game among those on a board.
 use Rattle.std.proofs.Common.{◌≡◌, ◌≤◌, ◌<◌, ◌+◌, ◌-◌, ℕ, zero, suc, Bool, true, false, cond, List, [], ◌∷◌, ◌++◌, None, Some, Option, length, get_or, take, drop, refl, sym, ap, ◌∙◌, subst, arith, inl, inr}
-use Rattle.std.specs.Prelude.{All, option_map, slice_get}
+use Rattle.std.specs.Prelude.{All, IfSome, option_map, slice_get}
 use Rattle.std.specs.List.{find}
 use Rattle.std.proofs.lemmas.Bool.{cases_lt}
 use Rattle.std.proofs.lemmas.List.{append-nil, append_assoc, length-append, length-take-le, set-get_or, set_split}
@@ -9,7 +9,7 @@ use Rattle.std.proofs.lemmas.List.Elements.{All-append, All-cons, All-head, All-
 use Rattle.cell_core.specs.declared.step.Move.{Move}
 use Rattle.cell_core.specs.Packed.{Packed}
 use Rattle.pos_index.specs.declared.hit.Hit.{Hit}
-use Rattle.pos_index.specs.Keeping.{IsApart}
+use Rattle.pos_index.specs.Keeping.{IsApart, IsGap}
 use Rattle.pos_index.specs.Hits.{Place, first_on, hits_from, hits_in, places_in, ply_and_next, same_packed}
 
 -- The hit of a place.
@@ -103,16 +103,20 @@ head_is board game (place ∷ row) = by (same_packed board place.board) (head_is
     by true rest = refl
     by false rest = rest
 
+-- The hits of a game and those behind them are of no earlier game.
+upwards : (own behind : List Hit) (game : ℕ) → All (λ (h : Hit). h.game ≡ game) own → All (λ (h : Hit). game < h.game) behind → All (λ (h : Hit). game ≤ h.game) (own ++ behind)
+upwards own behind game here above =
+    All-append (λ (h : Hit). game ≤ h.game) own behind
+    (All-weaker (λ (h : Hit). h.game ≡ game) (λ (h : Hit). game ≤ h.game) (λ h same. omega (arith, same)) own here)
+    (All-weaker (λ (h : Hit). game < h.game) (λ (h : Hit). game ≤ h.game) (λ h past. omega (arith, past)) behind above)
+
 -- Where the hits of a game begin, or would.
 abbrev pub BeginsAt : ℕ → ℕ → List Hit → Type 0
 BeginsAt game at hits = (front back : List Hit) → hits ≡ front ++ back → All (λ (h : Hit). h.game < game) front → All (λ (h : Hit). game ≤ h.game) back → at ≡ length front
 
 begin_is : (hits own : List Hit) (game at : ℕ) → (are : IsApart hits game own) → BeginsAt game at hits → at ≡ length are.before
 begin_is hits own game at are begins =
-    begins are.before (own ++ are.behind) are.is are.below
-    (All-append (λ (h : Hit). game ≤ h.game) own are.behind
-    (All-weaker (λ (h : Hit). h.game ≡ game) (λ (h : Hit). game ≤ h.game) (λ h same. omega (arith, same)) own are.here)
-    (All-weaker (λ (h : Hit). game < h.game) (λ (h : Hit). game ≤ h.game) (λ h past. omega (arith, past)) are.behind are.above))
+    begins are.before (own ++ are.behind) are.is are.below (upwards own are.behind game are.here are.above)
 
 get_past : (front rest : List Hit) → slice_get (front ++ rest) (length front) ≡ slice_get rest 0
 get_past [] rest = refl
@@ -146,6 +150,13 @@ none_left : (own rest : List Hit) → length (own ++ rest) ≡ 0 → slice_get o
 none_left [] rest none = refl
 none_left (h ∷ own) rest none = absurd (omega (arith, none))
 
+-- None of a game stands there, if what stands first is of a later one.
+none_own : (own behind : List Hit) (game : ℕ) → IfSome (slice_get (own ++ behind) 0) (λ (h : Hit). game < h.game) → All (λ (h : Hit). h.game ≡ game) own → slice_get own 0 ≡ None
+none_own [] behind game past here = refl
+none_own (h ∷ own) behind game past here =
+    let same : h.game ≡ game = All-head (λ (k : Hit). k.game ≡ game) h own here in
+    absurd (omega (arith, past, same))
+
 module _ (board : Packed) (rows : List (List Place)) (game at : ℕ) (hits : List Hit) (begins : BeginsAt game at hits) (all : hits ≡ hits_from board 0 rows) where
   abbrev own : List Hit
   own = hits_in board game (places_in rows game)
@@ -170,8 +181,12 @@ module _ (board : Packed) (rows : List (List Place)) (game at : ℕ) (hits : Lis
       ap (option_map told_by) (sym (one_first own are.behind game hit (there hits own game at hit are begins within is) same are.above))
       ∙ head_is board game (places_in rows game)
 
--- Where there are no hits at all, a game has none.
-pub none_there : (board : Packed) (rows : List (List Place)) (game : ℕ) (hits : List Hit) → length hits ≡ 0 → hits ≡ hits_from board 0 rows
+-- A game of a gap has none.
+pub gap_there : (board : Packed) (rows : List (List Place)) (game from to : ℕ) (hits : List Hit) → IsGap hits from to → from ≤ game → game < to → hits ≡ hits_from board 0 rows
     → None ≡ first_on board (places_in rows game)
-none_there board rows game hits empty all =
-    ends_there board rows game 0 hits (λ before behind is less from. let long = ap length is ∙ length-append before behind in omega (arith, empty, long)) all (sym empty)
+gap_there board rows game from to hits gap ge lt all =
+    let own : List Hit = hits_in board game (places_in rows game) in
+    let are : IsApart hits game own = subst (λ (l : List Hit). IsApart l game own) (sym all) (apart board game rows) in
+    ap (option_map told_by)
+    (sym (none_own own are.behind game (gap game ge lt are.before (own ++ are.behind) are.is are.below (upwards own are.behind game are.here are.above)) are.here))
+    ∙ head_is board game (places_in rows game)

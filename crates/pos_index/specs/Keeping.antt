@@ -1,5 +1,5 @@
 -- What the parts of an index keep. Only models and private functions cite these words.
-use Rattle.std.specs.Prelude.{◌≡◌, ℕ, ◌+◌, ◌<◌, ◌≤◌, ◌^◌, ◌==◌, if◌then◌else◌, All, Bool, List, [], ◌∷◌, ◌++◌, Option, Some, None, length, map, slice_get, slice_index_or, slice_set}
+use Rattle.std.specs.Prelude.{◌≡◌, ℕ, ◌+◌, ◌<◌, ◌≤◌, ◌^◌, ◌==◌, if◌then◌else◌, All, Bool, List, [], ◌∷◌, ◌++◌, Option, Some, None, length, map, slice_get, slice_index_or, slice_set, IfSome}
 use Rattle.std.specs.List.{range_with_len}
 use Rattle.indexmap.specs.IndexSet.{IndexSet, IsUnique}
 use Rattle.cell_core.specs.declared.man.Colour.TheVariants.{White}
@@ -173,3 +173,8 @@ pub record AddsRow (most : ℕ) (old new : List (List Place)) : Type 0 where
   pub row : List Place
   pub is_row : IsRow most row
   pub added : new ≡ old ++ row ∷ []
+
+-- No game from one number on, and before another, has a hit: what stands first behind the hits of the games before it is of a later game.
+abbrev pub IsGap : List Hit → ℕ → ℕ → Type 0
+IsGap hits from to = (game : ℕ) → from ≤ game → game < to → (front back : List Hit) → hits ≡ front ++ back
+    → All (λ (h : Hit). h.game < game) front → All (λ (h : Hit). game ≤ h.game) back → IfSome (slice_get back 0) (λ (h : Hit). game < h.game)

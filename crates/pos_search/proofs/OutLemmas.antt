@@ -1,6 +1,7 @@
 -- Games that are out: no place that an index has of them is sought, and no later ply can be.
 use Rattle.std.proofs.Common.{◌≡◌, ℕ, zero, suc, ◌+◌, ◌-◌, ◌<◌, ◌≤◌, Bool, true, false, cond, not, ◌&&◌, ◌||◌, List, [], ◌∷◌, Option, None, Some, length, get_or, map, min, refl, sym, ap, ◌∙◌, arith, inl, inr}
-use Rattle.std.specs.Prelude.{is_none, is_some, nat_lt, option_map, slice_get, sum}
+use Rattle.std.specs.Int.RustNames.{bit_and}
+use Rattle.std.specs.Prelude.{◌==◌, is_none, is_some, nat_lt, option_map, slice_get, sum}
 use Rattle.std.specs.List.{find, range_with_len}
 use Rattle.std.specs.Option.{option_or}
 use Rattle.std.proofs.lemmas.Bool.{and_parts, cases_Bool, cases_lt, false≢true}
@@ -20,6 +21,7 @@ use Rattle.game_tree.specs.Replay.{next_at, plies_of, position_at}
 use Rattle.pos_index.specs.Hits.{Index, IndexesAll, Place, last_at, last_of, place_at, places_in, places_of, rows_told}
 use Rattle.pos_index.specs.declared.last.Last.{Last}
 use Rattle.sig_index.specs.Games.{Holds}
+use Rattle.sig_index.specs.Homes.{home_set}
 use Rattle.sig_index.specs.Signature.{IsSig}
 use Rattle.sig_index.specs.declared.pos_query.PosQuery.{PosQuery}
 use Rattle.sig_index.specs.declared.signature.Sig.{Sig}
@@ -165,10 +167,19 @@ none_or : (next : Option Move) → not (is_some next) ≡ is_none next
 none_or None = refl
 none_or (Some m) = refl
 
+turn : (few left ends : Bool) → (few || (left || ends)) ≡ (ends || (few || left))
+turn true left true = refl
+turn true left false = refl
+turn false true true = refl
+turn false true false = refl
+turn false false true = refl
+turn false false false = refl
+
 past_is : (query : PosQuery) (place : Place) → past_by query (last_at place) ≡ is_past query (Some place)
 past_is query place =
     let men = men_of place.board.cells in
-    λ j. none_or place.next j || (nat_lt (sum (counts_of men)) (sum (counts_of query.board)) || not (values_told query.board men j))
+    turn (nat_lt (sum (counts_of men)) (sum (counts_of query.board))) (not (bit_and (home_set men) (home_set query.board) == home_set query.board)) (not (is_some place.next))
+    ∙ λ j. none_or place.next j || (nat_lt (sum (counts_of men)) (sum (counts_of query.board)) || not (values_told query.board men j))
 
 swap : (e l p : Bool) → e ≡ true → (p && not l) ≡ (e && (not l && p))
 swap true true true is = refl

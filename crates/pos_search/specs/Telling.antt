@@ -34,7 +34,7 @@ AreLegalHits query told = All (λ (hit : Hit). IfSome hit.next (IsLegalOn (packe
 
 -- A game is out by what is kept of its last place, if something is.
 abbrev pub past_by : PosQuery → Last → Bool
-past_by query last = not last.goes_on || (nat_lt last.men (sum (counts_of query.board)) || not (bit_and last.homes (home_set query.board) == home_set query.board))
+past_by query last = nat_lt last.men (sum (counts_of query.board)) || (not (bit_and last.homes (home_set query.board) == home_set query.board) || not last.goes_on)
 
 abbrev pub out_by : PosQuery → Sig → Option Last → Bool
 out_by query sig None = false

@@ -17,5 +17,5 @@ pub use laws::{first_plies_are_first, index_tells_hits, tests_are_sound};
 pub use matching::{Sought, passes};
 pub use searching::{hit, hit_sought, search};
 pub use sig_index::{Mode, PosQuery};
-pub use telling::{Told, hits_told};
+pub use telling::{Told, hits_told, is_passed};
 pub use walking::first_match;

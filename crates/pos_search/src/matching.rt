@@ -82,6 +82,7 @@ impl<'a> Sought<'a> {
     }
 
     // Whether a game with this signature can match.
+    #[inline(never)]
     #[tactic(auto, unfolding(crate::specs::Passing::passes))]
     pub(crate) fn passes(&self, s: &Brief<'_>) -> bool
         requires home { IsHomeList s.now.home }
@@ -94,6 +95,7 @@ impl<'a> Sought<'a> {
     }
 
     // Whether variations of a game with this signature are looked at: the query looks there, and it has some.
+    #[inline(always)]
     pub(crate) fn looks_into(&self, s: &Brief<'_>) -> bool
         ensures into { result ≡ looks_into s.now self.now }
     {
@@ -101,10 +103,15 @@ impl<'a> Sought<'a> {
     }
 
     // Whether no ply behind the last place of a game that an index has can have the board, by what is kept of that place.
+    #[inline(always)]
     pub(crate) fn is_past(&self, last: &Last) -> bool
         ensures { result ≡ past_by self.now last.now }
     {
-        !last.goes_on || last.men < self.men || last.homes & self.homes != self.homes
+        // By the number of men most games are.
+        if last.men < self.men {
+            return true;
+        }
+        last.homes & self.homes != self.homes || !last.goes_on
     }
 
     // Whether variations are looked at too.

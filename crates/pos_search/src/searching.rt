@@ -18,6 +18,7 @@ use crate::telling::{Told, hit_told, hits_told, is_open};
 use crate::walking::first_sought;
 use base_files::Files;
 use cell_core::Move;
+use game_codec::OuterLines;
 use game_filter::{Filter, Op};
 use pos_index::PosIndex;
 use sig_index::{FetchError, Games, PosQuery};
@@ -88,10 +89,12 @@ pub fn search<G: Games, F: Files>(
     ensures counts { F.faults files.old ≤ F.faults files.new }
     ensures cause { IfErr result (λ e. HasFetchCause e (G.sigs games.now) (G.extents games.now) (F.seen files.old).games buf.new (F.faults files.old) (F.faults files.new)) }
 {
-    let mut asked = Asked {
-        sought: Sought::new(q),
-        told: hits_told(q, index),
-    };
+    if q.vars {
+        let mut room = OuterLines::new();
+        let mut asked = Asked::new(q, index, Some(&mut room));
+        return game_search::search(games, &mut asked, op, filter, files, buf);
+    }
+    let mut asked = Asked::new(q, index, None);
     game_search::search(games, &mut asked, op, filter, files, buf)
 }
 

@@ -1,5 +1,5 @@
 //! What an index tells of the games for a query.
-ghost use Rattle.std.specs.Prelude.{◌≡◌, ◌&&◌, not, List, [], None, option_copied, slice_index_or};
+ghost use Rattle.std.specs.Prelude.{◌≡◌, ◌&&◌, not, false, IsTrue, List, [], None, option_copied, slice_index_or};
 ghost use Rattle.pos_index.specs.Hits.{Place, places_in, rows_told};
 ghost use Rattle.sig_index.specs.Homes.{IsHomeList};
 ghost use Rattle.sig_index.specs.declared.pos_query.PosQuery.{PosQuery as Query};
@@ -68,6 +68,7 @@ pub(crate) fn hit_told(told: &mut Told<'_>, i: u32) -> Option<(u32, Option<Move>
 }
 
 // Whether game `i`, of which no hit is told, can match.
+#[inline(always)]
 pub(crate) fn is_open(told: &Told<'_>, i: u32, q: &Sought<'_>, sig: &Brief<'_>) -> bool
     requires home { IsHomeList sig.now.home }
     ensures { (rows : List (List Place)) → told.now ≡ hits_told q.now rows → result ≡ (passes sig.now q.now && not (is_out q.now (places_in rows i) sig.now)) }
@@ -75,7 +76,19 @@ pub(crate) fn is_open(told: &Told<'_>, i: u32, q: &Sought<'_>, sig: &Brief<'_>) 
     !is_out(told, i, q, sig) && q.passes(sig)
 }
 
+/// Whether game `i` of this signature is known to have no hit, without a look at the hits: none is told of it, and its record need not be
+/// read. Any other game may have none, too.
+#[inline(always)]
+pub fn is_passed(told: &Told<'_>, i: u32, q: &Sought<'_>, sig: &Brief<'_>) -> bool
+    requires home { IsHomeList sig.now.home }
+    ensures untold { IsTrue result → (rows : List (List Place)) → told.now ≡ hits_told q.now rows → None ≡ hit_told q.now (places_in rows i) }
+    ensures closed { IsTrue result → (rows : List (List Place)) → told.now ≡ hits_told q.now rows → (passes sig.now q.now && not (is_out q.now (places_in rows i) sig.now)) ≡ false }
+{
+    told.hits.skips(i) && !is_open(told, i, q, sig)
+}
+
 // Whether what is kept of the last place of game `i` rules it out.
+#[inline(always)]
 fn is_out(told: &Told<'_>, i: u32, q: &Sought<'_>, sig: &Brief<'_>) -> bool
     ensures { (rows : List (List Place)) → told.now ≡ hits_told q.now rows → result ≡ is_out q.now (places_in rows i) sig.now }
 {
@@ -83,6 +96,7 @@ fn is_out(told: &Told<'_>, i: u32, q: &Sought<'_>, sig: &Brief<'_>) -> bool
 }
 
 // What is kept of the last place of game `i`.
+#[inline(always)]
 fn last_told(told: &Told<'_>, i: u32) -> Option<Last>
     ensures { result ≡ slice_index_or told.now.lasts i None }
 {
@@ -94,6 +108,7 @@ fn last_told(told: &Told<'_>, i: u32) -> Option<Last>
 }
 
 // Whether it rules the game out.
+#[inline(always)]
 fn is_out_by(last: &Option<Last>, q: &Sought<'_>, sig: &Brief<'_>) -> bool
     ensures { result ≡ out_by q.now sig.now last.now }
 {

@@ -125,6 +125,7 @@ pub(crate) fn ply_sought(
     bytes: &[u8],
     sig: &Brief<'_>,
     q: &Sought<'_>,
+    room: &mut Option<&mut OuterLines>,
 ) -> Result<Option<u32>, RecordFault>
     requires few { length bytes.now < 2 ^ 32 }
     ensures first { IfOk result (λ ply. (tags : List Tag) (game : GameTree) → IsRecord bytes.now tags game → IsSig game sig.now → ply ≡ first_of q.now game) }
@@ -132,21 +133,42 @@ pub(crate) fn ply_sought(
 {
     let found = ply_on_main(bytes, q)?;
     if found.is_none() && q.looks_into(sig) {
-        return ply_in_lines(bytes, q);
+        return ply_in_lines(bytes, q, room);
     }
     Ok(found)
 }
 
 // The same of all lines.
-fn ply_in_lines(bytes: &[u8], q: &Sought<'_>) -> Result<Option<u32>, RecordFault>
+fn ply_in_lines(
+    bytes: &[u8],
+    q: &Sought<'_>,
+    room: &mut Option<&mut OuterLines>,
+) -> Result<Option<u32>, RecordFault>
     requires few { length bytes.now < 2 ^ 32 }
     requires aside { IsTrue q.now.vars }
     ensures first { IfOk result (λ ply. (tags : List Tag) (game : GameTree) → IsRecord bytes.now tags game → ply ≡ first_of q.now game) }
     ensures fault { IfErr result (λ _. IsSomeRecord bytes.now → ⊥) }
 {
-    match first_in_room(bytes, q) {
+    match first_in_lent(bytes, q, room) {
         Ok(hit) => Ok(ply_of(hit)),
         Err(fault) => Err(fault),
+    }
+}
+
+// The hit of all lines, in the room that is lent, if one is.
+fn first_in_lent(
+    bytes: &[u8],
+    q: &Sought<'_>,
+    room: &mut Option<&mut OuterLines>,
+) -> Result<Option<(u32, Option<Move>)>, RecordFault>
+    requires few { length bytes.now < 2 ^ 32 }
+    requires aside { IsTrue q.now.vars }
+    ensures first { IfOk result (λ hit. (tags : List Tag) (game : GameTree) → IsRecord bytes.now tags game → hit ≡ hit_of q.now game) }
+    ensures fault { IfErr result (λ _. IsSomeRecord bytes.now → ⊥) }
+{
+    match room {
+        Some(room) => first_in_lines(bytes, q, room),
+        None => first_in_room(bytes, q),
     }
 }
 

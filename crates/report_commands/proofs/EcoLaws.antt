@@ -133,7 +133,7 @@ beside_coded old new seen some unsaved (Some base) names b = record {
   carries = b.carries;
   names = subst (λ (n : NameLists). HoldsNames n b.carries.all_names) (sym names) b.names;
   means = λ clean. b.means (right_false some unsaved clean);
-  opens = λ clean. b.opens (right_false some unsaved clean);
+  whole = λ clean. b.whole (right_false some unsaved clean);
 }
 beside_coded old new seen some unsaved None names b = b
 
@@ -172,6 +172,7 @@ coded_stands table codes old new tables filter saved seen s are coded_are st =
       tables = tables_are tables s.shared.index s.slots s.shared.base.games (map (λ (held : Held). with_code (eco_of table held.game) held) s.shared.base.games) st.tables
           (ap (λ (games : List GameTree). option_map (index_of games) s.shared.index) (sym (classified_games table s.shared.base.games)))
           (λ query. classified_hits table query s.shared.base.games);
+      fresh = st.fresh;
     }
 
 pub coded_fits : (codes : List (Option ℕ)) (old new : Kept) (tables : Tables) (filter : List (Option ℕ)) (saved : List SavedFilter) → AreCoded codes old new → Fits (held_by old tables filter saved) → Fits (held_by new tables filter saved)

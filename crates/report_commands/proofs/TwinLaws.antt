@@ -90,6 +90,7 @@ deleted_stands (game ∷ games) old new tables filter saved seen s marked st = r
       tables_are tables s.shared.index s.slots s.shared.base.games later.games st.tables
       (index_stays old new st.games s.shared.base later _ s.shared.index st.base (marked.0 st.games s.shared.base st.base) marked.1.extents refl)
       (λ query. deleted_hits query (game ∷ games) s.shared.base);
+  fresh = st.fresh;
 }
 
 pub marked_fits : (games : List ℕ) (old new : Kept) (tables : Tables) (filter : List (Option ℕ)) (saved : List SavedFilter) → Marked games old new → Fits (held_by old tables filter saved) → Fits (held_by new tables filter saved)

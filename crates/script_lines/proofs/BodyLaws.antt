@@ -1,13 +1,15 @@
 -- Laws of bodies: where one ends is told by the bytes up to there, and what is read of it is its front.
-use Rattle.std.proofs.Common.{◌&&◌, ◌≡◌, ◌≤◌, ◌<◌, ◌+◌, ◌==◌, ℕ, zero, suc, Bool, true, false, cond, List, [], ◌∷◌, ◌++◌, length, take, drop, Option, Some, None, option_map, refl, sym, ap, ◌∙◌, arith, append_assoc, append-nil}
+use Rattle.std.proofs.Common.{◌&&◌, ◌≡◌, ◌≤◌, ◌<◌, ◌+◌, ◌-◌, ◌==◌, ℕ, zero, suc, Bool, true, false, not, cond, List, [], ◌∷◌, ◌++◌, length, take, drop, Option, Some, None, option_map, refl, sym, ap, ◌∙◌, arith, append_assoc, append-nil}
+use Rattle.std.specs.Prelude.{slice_index_or}
 use Rattle.std.specs.Str.{bytes_eq}
 use Rattle.std.proofs.lemmas.List.{take-append-drop, take_all, length-append, length-take-le}
 use Rattle.std.proofs.lemmas.Slice.Eq.{bytes_eq-Decides}
 use Rattle.script_text.specs.Reading.{shorn}
 use Rattle.script_lines.specs.Bodies.{Body, body, body_of, feed_at, first_line, is_word, led}
-use Rattle.script_lines.specs.Fronts.{EndsAt}
+use Rattle.script_lines.specs.Fronts.{EndsAt, Says, begins_otherwise}
 use Rattle.script_lines.specs.Standing.{is_fresh}
 use Rattle.script_lines.specs.declared.place.At.{At}
+use Rattle.script_lines.specs.declared.place.Front.TheVariants as at_front
 use Rattle.script_lines.specs.declared.place.At.TheVariants.{Line, Inside, Behind, End}
 use Rattle.script_lines.proofs.ScriptLaws.{feed_at_position, feed_within, first_feed, no_feed, shorn_length}
 
@@ -130,6 +132,41 @@ pub word_at : (word bytes line : List ℕ) (place : ℕ) (found : Bool) → Some
     → is_word word bytes ≡ found
 word_at word bytes line place found at is compared =
     ap (λ l. bytes_eq (shorn l) word) (line_taken bytes place (sym (at ∙ feed_at_position bytes)) ∙ sym is) ∙ sym compared
+
+-- ---- a line that begins with another byte than the word
+
+other_line : (byte wanted : ℕ) (word line : List ℕ) → (byte == wanted) ≡ false → bytes_eq (byte ∷ line) (wanted ∷ word) ≡ false
+other_line byte wanted word line other = rw other refl
+
+other_part : (byte wanted n : ℕ) (word line : List ℕ) → (byte == wanted) ≡ false → bytes_eq (take n (byte ∷ line)) (wanted ∷ word) ≡ false
+other_part byte wanted zero word line other = refl
+other_part byte wanted (suc n) word line other = other_line byte wanted word (take n line) other
+
+other_shorn : (byte wanted : ℕ) (word line : List ℕ) → (byte == wanted) ≡ false → (test : Bool)
+    → (slice_index_or (byte ∷ line) (length (byte ∷ line) - 1) 0 == 13) ≡ test → bytes_eq (shorn (byte ∷ line)) (wanted ∷ word) ≡ false
+unfolding shorn
+other_shorn byte wanted word line other true is = rw is (other_part byte wanted (length (byte ∷ line) - 1) word line other)
+other_shorn byte wanted word line other false is = rw is (other_line byte wanted word line other)
+
+none_shorn : (wanted : ℕ) (word : List ℕ) → bytes_eq (shorn []) (wanted ∷ word) ≡ false
+unfolding shorn
+none_shorn wanted word = refl
+
+other_word : (byte wanted : ℕ) (word bytes : List ℕ) → (byte == wanted) ≡ false → (test : Bool) → (byte == 10) ≡ test → is_word (wanted ∷ word) (byte ∷ bytes) ≡ false
+other_word byte wanted word bytes other true is = rw is (none_shorn wanted word)
+other_word byte wanted word bytes other false is =
+    rw is (other_shorn byte wanted word (first_line bytes) other (slice_index_or (byte ∷ first_line bytes) (length (byte ∷ first_line bytes) - 1) 0 == 13) refl)
+
+other_by : (byte wanted : ℕ) (test : Bool) → (byte == wanted) ≡ test → true ≡ not (byte == wanted) → (byte == wanted) ≡ false
+other_by byte wanted true is other = let bad : true ≡ not true = other ∙ ap not is in cc
+other_by byte wanted false is other = is
+
+-- Such bytes are no word, whatever follows.
+pub otherwise_begun : (word bytes : List ℕ) → true ≡ begins_otherwise word bytes → Says word true bytes at_front.Body
+otherwise_begun [] bytes is = cc
+otherwise_begun (wanted ∷ word) [] is = cc
+otherwise_begun (wanted ∷ word) (byte ∷ bytes) is =
+    (omega arith, λ more. other_word byte wanted word (bytes ++ more) (other_by byte wanted (byte == wanted) refl is) (byte == 10) refl)
 
 pub word_whole : (word bytes : List ℕ) → feed_at bytes ≡ None → is_word word bytes ≡ bytes_eq (shorn bytes) word
 word_whole word bytes none = ap (λ l. bytes_eq (shorn l) word) (line_whole bytes (sym (feed_at_position bytes) ∙ none))

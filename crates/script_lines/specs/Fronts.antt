@@ -1,5 +1,5 @@
 -- What stands at the front of the bytes that were read of a body. Only private functions cite this.
-use Rattle.std.specs.Prelude.{◌≡◌, ◌≤◌, ◌<◌, ℕ, suc, ◌+◌, ◌-◌, Bool, true, false, ◌&&◌, ◌⊎◌, List, [], ◌++◌, length, take, Option, Some, None, option_map}
+use Rattle.std.specs.Prelude.{◌≡◌, ◌≤◌, ◌<◌, ℕ, suc, ◌+◌, ◌-◌, ◌==◌, Bool, true, false, not, ◌&&◌, ◌⊎◌, List, [], ◌∷◌, ◌++◌, length, take, Option, Some, None, option_map}
 use Rattle.base_files.specs.Told.{before, Tells}
 use Rattle.script_lines.specs.Bodies.{feed_at, is_word}
 use Rattle.script_lines.specs.Reading.{Reader}
@@ -22,6 +22,11 @@ abbrev pub Says : List ℕ → Bool → List ℕ → Front → Type 0
 Says word fresh bytes front.Body = (0 < length bytes) × ((more : List ℕ) → (fresh && is_word word (bytes ++ more)) ≡ false)
 Says word fresh bytes (front.Ends line) = (fresh ≡ true) × ((option_map suc (feed_at bytes) ≡ Some line) × (is_word word bytes ≡ true))
 Says word fresh bytes front.Open = (feed_at bytes ≡ None) × (length bytes ≤ length word + 1)
+
+-- Whether they begin with another byte than the word.
+abbrev pub begins_otherwise : List ℕ → List ℕ → Bool
+begins_otherwise (wanted ∷ word) (byte ∷ bytes) = not (byte == wanted)
+begins_otherwise _ _ = false
 
 -- Why no more is known.
 abbrev pub StopsAt : Reader → ReadError → Type 0

@@ -5,7 +5,7 @@ ghost use Rattle.base_files.specs.Counters.{Rose};
 ghost use Rattle.base_files.specs.Told.{before, Tells};
 ghost use Rattle.script_text.specs.Reading.{shorn};
 ghost use Rattle.script_lines.specs.Bodies.{feed_at};
-ghost use Rattle.script_lines.specs.Fronts.{EndsAt, IsLast, Says, Seen, StopsAt, within};
+ghost use Rattle.script_lines.specs.Fronts.{EndsAt, IsLast, Says, Seen, StopsAt, begins_otherwise, within};
 ghost use Rattle.script_lines.specs.Script.{longest_script};
 ghost use Rattle.script_lines.specs.Standing.{IsBegun, Start, Standing, is_fresh, is_open, left_of, still_left};
 
@@ -297,10 +297,14 @@ fn part_end(bytes: &[u8]) -> (usize, At)
     }
 }
 
-// What stands at the front of these bytes, with which a line begins.
+// What stands at the front of these bytes, with which a line begins. The first byte rules most lines out.
+#[tactic(auto, using(crate::proofs::BodyLaws::otherwise_begun))]
 fn line_front(word: &[u8], bytes: &[u8]) -> Front
     ensures says { Says word.now true bytes.now result }
 {
+    if begins_otherwise(word, bytes) {
+        return Front::Body;
+    }
     match feed_at(bytes) {
         Some(place) => {
             if is_word(word, bytes.split_at(place).0) {
@@ -316,6 +320,17 @@ fn line_front(word: &[u8], bytes: &[u8]) -> Front
                 Front::Body
             }
         }
+    }
+}
+
+// Whether the bytes begin with another byte than the word.
+#[inline(always)]
+fn begins_otherwise(word: &[u8], bytes: &[u8]) -> bool
+    ensures otherwise { result ≡ begins_otherwise word.now bytes.now }
+{
+    match (word, bytes) {
+        ([wanted, ..], [byte, ..]) => *byte != *wanted,
+        _ => false,
     }
 }
 

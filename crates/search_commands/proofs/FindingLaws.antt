@@ -23,6 +23,7 @@ searched_stands kept tables filter later saved seen seen' s op firsts st same fo
   unsaved = st.unsaved;
   tables = st.tables;
   carried = subst (λ (x : Seen). AreBeside kept x s.shared.unsaved s.shared.carried) (sym same) st.carried;
+  fresh = ap (λ (t : Seen). t.fresh) same ∙ st.fresh;
 }
 
 -- The same where it may be broken off.

@@ -60,7 +60,7 @@ quiet_heads kept tables filter later saved op query line found written fits =
     ∙ ap (λ (plies : Plies). searched op (map (first_by_head query) s.shared.base.games) plies) same in
     record {
       stands = λ (seen : Seen) (s : State) (st : Stands (held_by kept tables filter saved) seen s).
-          record { games = st.games; told = st.told; base = st.base; seat = seats_are (record { filter = later; saved = saved }) _ (after s st.games st.base (filter_is st)) (saved_is st); unsaved = st.unsaved; carried = st.carried; tables = st.tables };
+          record { games = st.games; told = st.told; base = st.base; seat = seats_are (record { filter = later; saved = saved }) _ (after s st.games st.base (filter_is st)) (saved_is st); unsaved = st.unsaved; carried = st.carried; tables = st.tables; fresh = st.fresh };
       text = λ (seen : Seen) (s : State) (st : Stands (held_by kept tables filter saved) seen s).
           written ∙ ap (λ (plies : Plies). filter_line plies) (after s st.games st.base (filter_is st));
       fits = fits_by (held_by kept tables filter saved) (held_by kept tables later saved) refl refl

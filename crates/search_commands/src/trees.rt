@@ -1,5 +1,5 @@
 //! The command that writes the opening tree of the games that are in.
-ghost use Rattle.std.specs.Prelude.{◌≡◌, ◌≤◌, ◌<◌, ◌+◌, ◌++◌, ℕ, List, Option, Some, Ok, All, length, map, option_copied, slice_get, IfOk, IfErr, OnOk};
+ghost use Rattle.std.specs.Prelude.{◌≡◌, ◌≤◌, ◌<◌, ◌+◌, ◌++◌, ℕ, if◌then◌else◌, List, Option, Some, Ok, All, length, map, option_copied, slice_get, IfOk, IfErr, OnOk, option_to_list};
 ghost use Rattle.base_core.specs.Base.{Base as PlainBase, Held};
 ghost use Rattle.base_core.specs.Represents.{IsSound, Represents, extents_of, sigs_of};
 ghost use Rattle.base_files.specs.Counters.{raised};
@@ -22,7 +22,8 @@ ghost use Rattle.shell_state.specs.Ends.{IsDevice, Unsaid};
 ghost use Rattle.shell_state.specs.Stands.{Stands, Sound, Broken, WhyHalt, Asks, AsksAll};
 ghost use Rattle.shell_state.specs.State.{State};
 ghost use Rattle.shell_state.specs.Work.{works};
-ghost use Rattle.shell_state.specs.Meeting.{hit_if_in, listed_hit, tree_hits, tree_of};
+ghost use Rattle.shell_state.specs.Meeting.{hit_if_in, tree_hits, tree_of};
+ghost use Rattle.shell_state.specs.Slots.{hit_of_game};
 
 use base_core::Base;
 use base_files::{Files, Sink, Stop};
@@ -30,7 +31,7 @@ use cell_core::{Board, Colour};
 use game_filter::Filter;
 use pos_index::PosIndex;
 use pos_search::{Sought, Told, hits_told};
-use shell_state::{Halt, Machine, read_hit, write_line};
+use shell_state::{Halt, Machine, is_passed, read_hit, write_line};
 use sig_index::{Mode, PosQuery};
 use std::alloc::{AllocError, Global};
 use tree_rows::{Rows, lines};
@@ -172,7 +173,7 @@ fn add_game<F: Files>(
     requires within { base.now.end ≤ (F.seen files.old).known }
     ensures same { told.new ≡ told.old }
     ensures added { (contents : List ℕ) (all : PlainBase) (held : Held) (index : Option Index) (hits : List Hit) → (F.seen files.old).games ≡ Some contents → Represents base.now contents all → slice_get all.games i ≡ Some held
-        → told.old ≡ hits_told query.now (rows_told index) → IndexesAll index (map (λ h. h.game) all.games) → rows.old ≡ rows_of hits → OnOk result (rows.new ≡ rows_of (hits ++ listed_hit (hit_if_in query.now ply held))) }
+        → told.old ≡ hits_told query.now (rows_told index) → IndexesAll index (map (λ h. h.game) all.games) → rows.old ≡ rows_of hits → OnOk result (rows.new ≡ rows_of (hits ++ option_to_list (hit_if_in query.now ply held))) }
     ensures devices { (told : List ℕ) (all : PlainBase) → (F.seen files.old).games ≡ Some told → Represents base.now told all → IfErr result IsDevice }
     ensures counted { OnOk result (AreRows (i + 1) rows.new) }
     ensures keys { All (λ row. IsKey query.now.board query.now.side row.key) rows.old → OnOk result (All (λ row. IsKey query.now.board query.now.side row.key) rows.new) }
@@ -185,6 +186,43 @@ fn add_game<F: Files>(
     let Some(_) = ply else {
         return Ok(());
     };
+    if is_passed(base, i, query, told) {
+        return Ok(());
+    }
+    add_met(rows, base, i, query, told, files, block)
+}
+
+// The same of a game that is in and may meet the position. It stands apart, so that no game that is passed over has room cleared for its hit.
+#[inline(never)]
+fn add_met<F: Files>(
+    rows: &mut Rows,
+    base: &Base,
+    i: u32,
+    query: &Sought<'_>,
+    told: &mut Told<'_>,
+    files: &mut F,
+    block: &mut [u8],
+) -> Result<(), Halt>
+    requires exact { query.now.mode ≡ Exact }
+    requires squares { length query.now.board ≡ 64 }
+    requires legal { AreLegalHits query.now told.old }
+    requires there { i < length base.now.entries }
+    requires counted { AreRows i rows.old }
+    requires sound { IsSound base.now }
+    requires room { length block.old ≡ 131072 }
+    requires within { base.now.end ≤ (F.seen files.old).known }
+    ensures same { told.new ≡ told.old }
+    ensures added { (contents : List ℕ) (all : PlainBase) (held : Held) (index : Option Index) (hits : List Hit) → (F.seen files.old).games ≡ Some contents → Represents base.now contents all → slice_get all.games i ≡ Some held
+        → told.old ≡ hits_told query.now (rows_told index) → IndexesAll index (map (λ h. h.game) all.games) → rows.old ≡ rows_of hits → OnOk result (rows.new ≡ rows_of (hits ++ option_to_list (hit_of_game query.now held))) }
+    ensures devices { (told : List ℕ) (all : PlainBase) → (F.seen files.old).games ≡ Some told → Represents base.now told all → IfErr result IsDevice }
+    ensures counted { OnOk result (AreRows (i + 1) rows.new) }
+    ensures keys { All (λ row. IsKey query.now.board query.now.side row.key) rows.old → OnOk result (All (λ row. IsKey query.now.board query.now.side row.key) rows.new) }
+    ensures room { length block.new ≡ 131072 }
+    ensures unchanged { F.seen files.new ≡ F.seen files.old }
+    ensures asks { (sig : Sig) (rows : List (List Place)) → slice_get (sigs_of base.now) i ≡ Some sig → told.old ≡ hits_told query.now rows → F.asked files.new ≤ F.asked files.old + (if is_read query.now (places_in rows i) sig then (extent_in (extents_of base.now) i).len else 0) }
+    ensures asked { (sig : Sig) (rows : List (List Place)) → slice_get (sigs_of base.now) i ≡ Some sig → told.old ≡ hits_told query.now rows → OnOk result (raised (F.asked files.old) (if is_read query.now (places_in rows i) sig then (extent_in (extents_of base.now) i).len else 0) ≤ F.asked files.new) }
+    ensures causes { Causes WhyHalt result (counts (F.faults files.old) 0 0) (counts (F.faults files.new) 0 0) }
+{
     let hit = match read_hit(base, i, query, told, files, block) {
         Ok(Some(hit)) => hit,
         Ok(None) => return Ok(()),

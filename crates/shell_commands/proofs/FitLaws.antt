@@ -229,12 +229,12 @@ task_has w s t has = order_has w s t.order t.body has
 
 -- ---- a script
 
-begin_has : (created : Bool) (slots : List Slot) (base : Base) → HasFilters (begin created slots base)
-begin_has created slots base = record { fit = record { filter = length-replicate (length base.games) (Some 0); saved = All-nil (λ (f : SavedFilter). length f.plies ≡ length base.games) }; few = omega arith }
+begin_has : (created : Bool) (fresh : Option (List ℕ)) (slots : List Slot) (base : Base) → HasFilters (begin created fresh slots base)
+begin_has created fresh slots base = record { fit = record { filter = length-replicate (length base.games) (Some 0); saved = All-nil (λ (f : SavedFilter). length f.plies ≡ length base.games) }; few = omega arith }
 
 all_have : (w : Window) (s : State) (done : List Task) → HasFilters s → HasFilters (after_all (tasks w) s done)
 all_have w s [] has = has
 all_have w s (t ∷ done) has = all_have w ((tasks w).after s t) done (task_has w s t has)
 
-pub script_has : (w : Window) (created : Bool) (slots : List Slot) (base : Base) (done : List Task) → HasFilters (after_all (tasks w) (begin created slots base) done)
-script_has w created slots base done = all_have w (begin created slots base) done (begin_has created slots base)
+pub script_has : (w : Window) (created : Bool) (fresh : Option (List ℕ)) (slots : List Slot) (base : Base) (done : List Task) → HasFilters (after_all (tasks w) (begin created fresh slots base) done)
+script_has w created fresh slots base done = all_have w (begin created fresh slots base) done (begin_has created fresh slots base)

@@ -1,6 +1,6 @@
 -- Commands that change games in what no view shows.
 use Rattle.std.proofs.Common.{◌≡◌, ℕ, Bool, true, false, List, [], ◌∷◌, ◌++◌, Option, Some, None, Result, Ok, Err, refl, sym, ap, ap₂, subst, true≢false, ◌∙◌}
-use Rattle.std.specs.Prelude.{if◌then◌else◌, slice_get}
+use Rattle.std.specs.Prelude.{if◌then◌else◌, slice_get, option_to_list}
 use Rattle.base_core.specs.Base.{Base, Held}
 use Rattle.base_core.specs.Edits.{deleted, marked, undeleted}
 use Rattle.cell_core.specs.Packed.{Packed}
@@ -22,7 +22,7 @@ use Rattle.shell_commands.specs.Tasks.{command_work}
 use Rattle.shell_commands.specs.Watching.{ViewsDone}
 use Rattle.shell_commands.specs.declared.parts.Part.TheVariants.{Slots}
 use Rattle.shell_state.proofs.TableLaws.{hits_on}
-use Rattle.shell_state.specs.Meeting.{listed_hit, tree_hits}
+use Rattle.shell_state.specs.Meeting.{tree_hits}
 use Rattle.shell_state.specs.Slots.{Slot, exactly_on, hit_of_game, slot_at}
 use Rattle.shell_state.specs.Slots.Slot.{empty, idle, shows}
 use Rattle.shell_state.specs.State.{State, with_index}
@@ -52,7 +52,7 @@ tree_alike query (None ∷ plies) (held ∷ games) (held' ∷ games') same =
 tree_alike query (Some ply ∷ plies) (held ∷ games) (held' ∷ games') same =
     let head : hit_of_game query held' ≡ hit_of_game query held = cc in
     let rest : hits_on query games' ≡ hits_on query games = cc in
-    ap₂ (λ (hit : Option GameHit) (hits : List GameHit). listed_hit hit ++ hits) head (tree_alike query plies games games' rest)
+    ap₂ (λ (hit : Option GameHit) (hits : List GameHit). option_to_list hit ++ hits) head (tree_alike query plies games games' rest)
 
 pub right_alike : {B : Type 0} (rows : B → List Row) (s t : State) (slot : Slot) (view : Option B) → CountAlike s t → IsRight rows s slot view → IsRight rows t slot view
 right_alike rows s t empty view alike is = is

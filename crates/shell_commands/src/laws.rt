@@ -1,5 +1,5 @@
 //! Laws of the plain machine.
-ghost use Rattle.std.specs.Prelude.{◌≡◌, ◌<◌, ◌^◌, ◌++◌, ℕ, Bool, false, List, None, Ok, Err, length};
+ghost use Rattle.std.specs.Prelude.{◌≡◌, ◌<◌, ◌^◌, ◌++◌, ℕ, Bool, false, List, Option, None, Ok, Err, length};
 ghost use Rattle.base_core.specs.Base.{Base, Held};
 ghost use Rattle.cell_core.specs.Board.{Men};
 ghost use Rattle.cell_core.specs.declared.man.Colour.{Colour};
@@ -31,7 +31,7 @@ pub fn refused_tasks_change_nothing()
 /// A law: every filter has an entry for each game, and at most eight are kept, behind whatever tasks a script begins with.
 pub fn filters_fit()
     ensures task { (w : Window) (s : State) (t : Task) → HasFilters s → HasFilters ((tasks w).after s t) }
-    ensures script { (w : Window) (created : Bool) (slots : List Slot) (base : Base) (done : List Task) → HasFilters (after_all (tasks w) (begin created slots base) done) }
+    ensures script { (w : Window) (created : Bool) (fresh : Option (List ℕ)) (slots : List Slot) (base : Base) (done : List Task) → HasFilters (after_all (tasks w) (begin created fresh slots base) done) }
 {}
 
 /// A law: what the slots show stays as it is, but for a task that watches one, or watches it no more. A slot that is

@@ -36,14 +36,14 @@ told seen F index names games known i n g =
 
 -- The contents are those that were given.
 pub as_given : (words : List (List ℕ)) (index names games script : List ℕ) (views : Views) (seen seen' : Seen) (input : Inlet) → SameContents seen seen' → seen.index ≡ Some index → seen.names ≡ Some names → seen.games ≡ Some games
-    → Unbegun (given words index names games script views) input input (around seen' views none_told views)
+    → Unbegun (given words index names games seen.fresh script views) input input (around seen' views none_told views)
 as_given words index names games script views seen seen' input same i n g = record { unread = refl; index = same.index ∙ i; names = same.names ∙ n; games = same.games ∙ g; views = refl }
 
 -- The opening refused.
 pub opening_answers : (words : List (List ℕ)) (index names games script : List ℕ) (views : Views) (seen seen' : Seen) (t : Option (List ℕ)) (input : Inlet) (wanted : Wanted (List ℕ)) (status : Status)
     → words_read words ≡ Some wanted → OpeningRefused wanted.create wanted.strict seen status → SameContents seen seen'
     → seen.index ≡ Some index → seen.names ≡ Some names → seen.games ≡ Some games
-    → Answers (given words index names games script views) t t input input (around seen' views none_told views) status
+    → Answers (given words index names games seen.fresh script views) t t input input (around seen' views none_told views) status
 opening_answers words index names games script views seen seen' t input wanted (BadBase fault) said refused same i n g =
     let P : Option (Wanted (List ℕ)) → Type 0 = λ o. IsSomeAnd o (λ w. Refuses w.create w.strict index names games fault) in
     (subst P (sym said) (told seen (λ index names games. Refuses wanted.create wanted.strict index names games fault) index names games refused i n g), refl, as_given words index names games script views seen seen' input same i n g)
@@ -57,10 +57,10 @@ opening_answers words index names games script views seen seen' t input wanted I
 opening_answers words index names games script views seen seen' t input wanted (Changed game kept found) said refused same i n g = absurd refused
 
 -- The base was opened.
-abbrev pub opened : (words : List (List ℕ)) (index names games script : List ℕ) (views : Views) (seen : Seen) (wanted : Wanted (List ℕ)) (held : DeskHolding) (mended : ℕ)
-    → words_read words ≡ Some wanted → (o : Opening wanted.create wanted.strict wanted.desk index names games held seen mended)
-    → Opened (given words index names games script views)
-opened words index names games script views seen wanted held mended said o =
+abbrev pub opened : (words : List (List ℕ)) (index names games : List ℕ) (fresh : Option (List ℕ)) (script : List ℕ) (views : Views) (seen : Seen) (wanted : Wanted (List ℕ)) (held : DeskHolding) (mended : ℕ)
+    → words_read words ≡ Some wanted → (o : Opening wanted.create wanted.strict wanted.desk index names games fresh held seen mended)
+    → Opened (given words index names games fresh script views)
+opened words index names games fresh script views seen wanted held mended said o =
     record { base = o.base; mended = mended; wanted = wanted; words = said; means = o.means; mends = o.mends; faultless = o.faultless }
 
 none_rose : Rose 0 0 → ⊥
@@ -275,53 +275,53 @@ done_reads old new = (tt, λ is. absurd (done_long is))
 -- ---- the session from its parts
 
 -- The opening line of the base that was opened.
-count_of : (create strict desk : Bool) (index names games : List ℕ) (held : DeskHolding) (seen : Seen) (mended count : ℕ) → (o : Opening create strict desk index names games held seen mended)
+count_of : (create strict desk : Bool) (index names games : List ℕ) (fresh : Option (List ℕ)) (held : DeskHolding) (seen : Seen) (mended count : ℕ) → (o : Opening create strict desk index names games fresh held seen mended)
     → count ≡ length held.holding.kept.entries → opening_text count mended ≡ opening_text (length o.base.games) mended
-count_of create strict desk index names games held seen mended count o same = ap (λ n. opening_text n mended) (same ∙ ((o.stands (slots_by []) (show_none [])).stands (first_seat 0)).base.count)
+count_of create strict desk index names games fresh held seen mended count o same = ap (λ n. opening_text n mended) (same ∙ ((o.stands (slots_by []) (show_none [])).stands (first_seat 0)).base.count)
 
 -- The opening line was broken off.
 pub line_session : (words : List (List ℕ)) (index names games script : List ℕ) (views : Views) (seen seen' : Seen) (wanted : Wanted (List ℕ)) (held : DeskHolding) (mended count : ℕ) (t t' : Option (List ℕ)) (input : Inlet) (s : Stop) (k k' : ℕ)
     → words_read words ≡ Some wanted
-    → IfTold seen (λ index names games. Opening wanted.create wanted.strict wanted.desk index names games held seen' mended)
+    → IfTold seen (λ index names games. Opening wanted.create wanted.strict wanted.desk index names games seen.fresh held seen' mended)
     → count ≡ length held.holding.kept.entries → Halted [] (opening_text count mended) t t' → SameContents seen seen' → Why s (counts 0 0 k) (counts 0 0 k')
     → seen.index ≡ Some index → seen.names ≡ Some names → seen.games ≡ Some games
-    → Answers (given words index names games script views) t t' input input (around seen' views none_told views) (status_of s)
+    → Answers (given words index names games seen.fresh script views) t t' input input (around seen' views none_told views) (status_of s)
 line_session words index names games script views seen seen' wanted held mended count t t' input s k k' said opens same wrote files why i n g =
-    let o : Opening wanted.create wanted.strict wanted.desk index names games held seen' mended =
-    told seen (λ index names games. Opening wanted.create wanted.strict wanted.desk index names games held seen' mended) index names games opens i n g in
+    let o : Opening wanted.create wanted.strict wanted.desk index names games seen.fresh held seen' mended =
+    told seen (λ index names games. Opening wanted.create wanted.strict wanted.desk index names games seen.fresh held seen' mended) index names games opens i n g in
     let P : List ℕ → Type 0 = λ text. Halted [] text t t' in
-    line_answers (given words index names games script views) t t' input (around seen' views none_told views) s k k' (opened words index names games script views seen' wanted held mended said o)
-    (subst P (count_of wanted.create wanted.strict wanted.desk index names games held seen' mended count o same) wrote) (as_given words index names games script views seen seen' input files i n g) why
+    line_answers (given words index names games seen.fresh script views) t t' input (around seen' views none_told views) s k k' (opened words index names games seen.fresh script views seen' wanted held mended said o)
+    (subst P (count_of wanted.create wanted.strict wanted.desk index names games seen.fresh held seen' mended count o same) wrote) (as_given words index names games script views seen seen' input files i n g) why
 
 -- The script was run to its end.
 pub whole_session : (words : List (List ℕ)) (index names games script : List ℕ) (views : Views) (seen seen' seen'' : Seen) (views'' : Views) (wanted : Wanted (List ℕ)) (held : DeskHolding) (mended count : ℕ) (t t' t'' : Option (List ℕ)) (input input' : Inlet)
     → words_read words ≡ Some wanted
-    → IfTold seen (λ index names games. Opening wanted.create wanted.strict wanted.desk index names games held seen' mended)
+    → IfTold seen (λ index names games. Opening wanted.create wanted.strict wanted.desk index names games seen.fresh held seen' mended)
     → length views ≤ 8 → (now later : Views) → now ≡ views → later ≡ views'' → count ≡ length held.holding.kept.entries → t' ≡ adds t (opening_text count mended)
     → ((d : Desk) (first : Views) (most : ℕ → ℕ) (script : List ℕ) → Lives held (around seen' first most now) d → input.left ≡ Some script → RanAll d script t' t'' input'.left (around seen'' first most later))
     → seen.index ≡ Some index → seen.names ≡ Some names → seen.games ≡ Some games → input.left ≡ Some script
-    → Answers (given words index names games script views) t t'' input input' (around seen'' views none_told views'') Done
+    → Answers (given words index names games seen.fresh script views) t t'' input input' (around seen'' views none_told views'') Done
 whole_session words index names games script views seen seen' seen'' views'' wanted held mended count t t' t'' input input' said opens few now later lent left_there same wrote ran i n g left =
-    let o : Opening wanted.create wanted.strict wanted.desk index names games held seen' mended =
-    told seen (λ index names games. Opening wanted.create wanted.strict wanted.desk index names games held seen' mended) index names games opens i n g in
-    let P : Option (List ℕ) → Type 0 = λ x. RanAll (desk_begin wanted.desk (is_created wanted.create index names games) (slots_by views) o.base) script x t'' input'.left (around seen'' views none_told views'') in
-    whole_answers (given words index names games script views) t t'' input input' (around seen'' views none_told views'') (opened words index names games script views seen' wanted held mended said o)
-    (subst P (wrote ∙ ap (adds t) (count_of wanted.create wanted.strict wanted.desk index names games held seen' mended count o same)) (subst (λ (v : Views). RanAll (desk_begin wanted.desk (is_created wanted.create index names games) (slots_by views) o.base) script t' t'' input'.left (around seen'' views none_told v)) left_there (ran (desk_begin wanted.desk (is_created wanted.create index names games) (slots_by views) o.base) views none_told script (subst (λ (v : Views). Lives held (around seen' views none_told v) (desk_begin wanted.desk (is_created wanted.create index names games) (slots_by views) o.base)) (sym lent) (lives_first held seen' views wanted.desk (is_created wanted.create index names games) o.base few (o.stands (slots_by views) (show_none views)))) left)))
+    let o : Opening wanted.create wanted.strict wanted.desk index names games seen.fresh held seen' mended =
+    told seen (λ index names games. Opening wanted.create wanted.strict wanted.desk index names games seen.fresh held seen' mended) index names games opens i n g in
+    let P : Option (List ℕ) → Type 0 = λ x. RanAll (desk_begin wanted.desk (is_created wanted.create index names games) seen.fresh (slots_by views) o.base) script x t'' input'.left (around seen'' views none_told views'') in
+    whole_answers (given words index names games seen.fresh script views) t t'' input input' (around seen'' views none_told views'') (opened words index names games seen.fresh script views seen' wanted held mended said o)
+    (subst P (wrote ∙ ap (adds t) (count_of wanted.create wanted.strict wanted.desk index names games seen.fresh held seen' mended count o same)) (subst (λ (v : Views). RanAll (desk_begin wanted.desk (is_created wanted.create index names games) seen.fresh (slots_by views) o.base) script t' t'' input'.left (around seen'' views none_told v)) left_there (ran (desk_begin wanted.desk (is_created wanted.create index names games) seen.fresh (slots_by views) o.base) views none_told script (subst (λ (v : Views). Lives held (around seen' views none_told v) (desk_begin wanted.desk (is_created wanted.create index names games) seen.fresh (slots_by views) o.base)) (sym lent) (lives_first held seen' views wanted.desk (is_created wanted.create index names games) seen.fresh o.base few (o.stands (slots_by views) (show_none views)))) left)))
 
 -- The run of the script stopped.
 pub part_session : (words : List (List ℕ)) (index names games script : List ℕ) (views : Views) (seen seen' seen'' : Seen) (views'' : Views) (wanted : Wanted (List ℕ)) (held : DeskHolding) (mended count : ℕ) (t t' t'' : Option (List ℕ)) (input input' : Inlet) (status : Status)
     → words_read words ≡ Some wanted
-    → IfTold seen (λ index names games. Opening wanted.create wanted.strict wanted.desk index names games held seen' mended)
+    → IfTold seen (λ index names games. Opening wanted.create wanted.strict wanted.desk index names games seen.fresh held seen' mended)
     → length views ≤ 8 → (now later : Views) → now ≡ views → later ≡ views'' → count ≡ length held.holding.kept.entries → t' ≡ adds t (opening_text count mended)
     → ((d : Desk) (first : Views) (most : ℕ → ℕ) (script : List ℕ) → Lives held (around seen' first most now) d → input.left ≡ Some script → RanPart status d script t' t'' input'.left (around seen'' first most later)) → Interrupts status
     → seen.index ≡ Some index → seen.names ≡ Some names → seen.games ≡ Some games → input.left ≡ Some script
-    → Answers (given words index names games script views) t t'' input input' (around seen'' views none_told views'') status
+    → Answers (given words index names games seen.fresh script views) t t'' input input' (around seen'' views none_told views'') status
 part_session words index names games script views seen seen' seen'' views'' wanted held mended count t t' t'' input input' status said opens few now later lent left_there same wrote ran stops i n g left =
-    let o : Opening wanted.create wanted.strict wanted.desk index names games held seen' mended =
-    told seen (λ index names games. Opening wanted.create wanted.strict wanted.desk index names games held seen' mended) index names games opens i n g in
-    let P : Option (List ℕ) → Type 0 = λ x. RanPart status (desk_begin wanted.desk (is_created wanted.create index names games) (slots_by views) o.base) script x t'' input'.left (around seen'' views none_told views'') in
-    part_answers (given words index names games script views) t t'' input input' (around seen'' views none_told views'') status (opened words index names games script views seen' wanted held mended said o)
-    (subst P (wrote ∙ ap (adds t) (count_of wanted.create wanted.strict wanted.desk index names games held seen' mended count o same)) (subst (λ (v : Views). RanPart status (desk_begin wanted.desk (is_created wanted.create index names games) (slots_by views) o.base) script t' t'' input'.left (around seen'' views none_told v)) left_there (ran (desk_begin wanted.desk (is_created wanted.create index names games) (slots_by views) o.base) views none_told script (subst (λ (v : Views). Lives held (around seen' views none_told v) (desk_begin wanted.desk (is_created wanted.create index names games) (slots_by views) o.base)) (sym lent) (lives_first held seen' views wanted.desk (is_created wanted.create index names games) o.base few (o.stands (slots_by views) (show_none views)))) left))) stops
+    let o : Opening wanted.create wanted.strict wanted.desk index names games seen.fresh held seen' mended =
+    told seen (λ index names games. Opening wanted.create wanted.strict wanted.desk index names games seen.fresh held seen' mended) index names games opens i n g in
+    let P : Option (List ℕ) → Type 0 = λ x. RanPart status (desk_begin wanted.desk (is_created wanted.create index names games) seen.fresh (slots_by views) o.base) script x t'' input'.left (around seen'' views none_told views'') in
+    part_answers (given words index names games seen.fresh script views) t t'' input input' (around seen'' views none_told views'') status (opened words index names games seen.fresh script views seen' wanted held mended said o)
+    (subst P (wrote ∙ ap (adds t) (count_of wanted.create wanted.strict wanted.desk index names games seen.fresh held seen' mended count o same)) (subst (λ (v : Views). RanPart status (desk_begin wanted.desk (is_created wanted.create index names games) seen.fresh (slots_by views) o.base) script t' t'' input'.left (around seen'' views none_told v)) left_there (ran (desk_begin wanted.desk (is_created wanted.create index names games) seen.fresh (slots_by views) o.base) views none_told script (subst (λ (v : Views). Lives held (around seen' views none_told v) (desk_begin wanted.desk (is_created wanted.create index names games) seen.fresh (slots_by views) o.base)) (sym lent) (lives_first held seen' views wanted.desk (is_created wanted.create index names games) seen.fresh o.base few (o.stands (slots_by views) (show_none views)))) left))) stops
 
 -- The opening line stands in what was written where nothing that was written is lost.
 pub opened_by : (t t' t'' : Option (List ℕ)) (games mended : ℕ) → t' ≡ adds t (opening_text games mended) → NoneLost t' t'' → (n m : ℕ) × Grew (adds t (opening_text n m)) t''

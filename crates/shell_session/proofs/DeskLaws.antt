@@ -75,6 +75,9 @@ desk_carries held seen d left st = carry_of (with_seat held.holding (seen_by d 0
 pub left_desk : (held : DeskHolding) (seen : Seen) (d : Desk) → DeskStands held seen d → AreLeft seen d.shared.carried d.shared.unsaved
 left_desk held seen d st = left_of (with_seat held.holding (seen_by d 0).seat) seen (seen_by d 0) (st.stands (seen_by d 0).seat)
 
+pub fresh_desk : (held : DeskHolding) (seen : Seen) (d : Desk) → DeskStands held seen d → seen.fresh ≡ d.shared.fresh
+fresh_desk held seen d st = (st.stands (seen_by d 0).seat).fresh
+
 -- Behind a line that leaves what they carry.
 pub carries_later : (held : DeskHolding) (seen : Seen) (d later : Desk) (left : Option (Base → Base)) → later.shared.carried ≡ d.shared.carried → DeskStands held seen later → StillCarry seen (seen_by d 0) left
 carries_later held seen d later left same st =

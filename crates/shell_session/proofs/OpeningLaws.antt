@@ -1,5 +1,5 @@
 -- Laws of the opening of a session.
-use Rattle.std.proofs.Common.{◌≡◌, ℕ, Bool, true, false, ◌&&◌, nat_eq, List, [], ◌∷◌, length, Option, Some, None, IfSome, refl, ap, ◌∙◌, arith, eqb-true}
+use Rattle.std.proofs.Common.{◌≡◌, ℕ, Bool, true, false, ◌&&◌, nat_eq, List, [], ◌∷◌, length, Option, Some, None, IfSome, refl, ap, ◌∙◌, subst, arith, eqb-true}
 use Rattle.std.specs.Bool.{MatchBool}
 use Rattle.base_files.specs.Seen.{Seen}
 use Rattle.base_core.specs.Base.{Base, empty_base}
@@ -54,16 +54,16 @@ meant_so false seen base c means empty = means
 
 -- A machine over what is kept stands for the desk in which a script begins, where its base was opened or created.
 abbrev pub Starts : Kept → Bool → DeskHolding → Type 0
-Starts kept desk held = (seen : Seen) (created : Bool) (slots : List Slot) (base : Base) → ShowNone slots → IsOpen kept seen created base → DeskStands held seen (desk_begin desk created slots base)
+Starts kept desk held = (seen : Seen) (created : Bool) (slots : List Slot) (base : Base) → ShowNone slots → IsOpen kept seen created base → DeskStands held seen (desk_begin desk created seen.fresh slots base)
 
-opening_by : (create strict desk : Bool) (i n g : Option (List ℕ)) (seen : Seen) (kept : Kept) (held : DeskHolding) (mended : ℕ)
+opening_by : (create strict desk : Bool) (i n g fresh : Option (List ℕ)) (seen : Seen) (kept : Kept) (held : DeskHolding) (mended : ℕ)
     → IfSome i (λ index. IfSome n (λ names. IfSome g (λ games. Opens create strict index names games kept mended)))
-    → seen.index ≡ i → seen.names ≡ n → seen.games ≡ g → Starts kept desk held
-    → IfSome i (λ index. IfSome n (λ names. IfSome g (λ games. Opening create strict desk index names games held seen mended)))
-opening_by create strict desk None n g seen kept held mended opens is ns gs starts = tt
-opening_by create strict desk (Some index) None g seen kept held mended opens is ns gs starts = tt
-opening_by create strict desk (Some index) (Some names) None seen kept held mended opens is ns gs starts = tt
-opening_by create strict desk (Some index) (Some names) (Some games) seen kept held mended opens is ns gs starts =
+    → seen.index ≡ i → seen.names ≡ n → seen.games ≡ g → seen.fresh ≡ fresh → Starts kept desk held
+    → IfSome i (λ index. IfSome n (λ names. IfSome g (λ games. Opening create strict desk index names games fresh held seen mended)))
+opening_by create strict desk None n g fresh seen kept held mended opens is ns gs same starts = tt
+opening_by create strict desk (Some index) None g fresh seen kept held mended opens is ns gs same starts = tt
+opening_by create strict desk (Some index) (Some names) None fresh seen kept held mended opens is ns gs same starts = tt
+opening_by create strict desk (Some index) (Some names) (Some games) fresh seen kept held mended opens is ns gs same starts =
     let c : Contents seen = record { index = index; names = names; games = games; index_told = is; names_told = ns; games_told = gs } in
     let created : Bool = is_created create index names games in
     record {
@@ -71,14 +71,16 @@ opening_by create strict desk (Some index) (Some names) (Some games) seen kept h
       means = opens.means;
       mends = opens.mends;
       faultless = opens.sound;
-      stands = λ slots none. starts seen created slots opens.base none (record {
-        contents = c;
-        represents = opens.represents;
-        saved = opens.saved;
-        means = meant_so created seen opens.base c opens.means (empty_parts create index names games);
-      });
+      stands = λ slots none. subst (λ (f : Option (List ℕ)). DeskStands held seen (desk_begin desk created f slots opens.base)) same
+          (starts seen created slots opens.base none (record {
+            contents = c;
+            represents = opens.represents;
+            saved = opens.saved;
+            means = meant_so created seen opens.base c opens.means (empty_parts create index names games);
+          }));
     }
 
 pub opening : (create strict desk : Bool) (old seen : Seen) (kept : Kept) (held : DeskHolding) (mended : ℕ) → IfTold old (λ index names games. Opens create strict index names games kept mended)
-    → seen.index ≡ old.index → seen.names ≡ old.names → seen.games ≡ old.games → Starts kept desk held → IfTold old (λ index names games. Opening create strict desk index names games held seen mended)
-opening create strict desk old seen kept held mended opens is ns gs starts = opening_by create strict desk old.index old.names old.games seen kept held mended opens is ns gs starts
+    → seen.index ≡ old.index → seen.names ≡ old.names → seen.games ≡ old.games → seen.fresh ≡ old.fresh → Starts kept desk held
+    → IfTold old (λ index names games. Opening create strict desk index names games old.fresh held seen mended)
+opening create strict desk old seen kept held mended opens is ns gs same starts = opening_by create strict desk old.index old.names old.games old.fresh seen kept held mended opens is ns gs same starts

@@ -62,16 +62,16 @@ asks_opening g a a' o is known = let P : Option (List ℕ) → Type 0 = λ x. If
 
 pub asks_script : (words : List (List ℕ)) (index names games script : List ℕ) (views : Views) (seen seen' : Seen) (wanted : Wanted (List ℕ)) (held : DeskHolding) (mended : ℕ) (left : Option (List ℕ)) (a a' a'' : ℕ)
     → words_read words ≡ Some wanted
-    → IfTold seen (λ index names games. Opening wanted.create wanted.strict wanted.desk index names games held seen' mended)
+    → IfTold seen (λ index names games. Opening wanted.create wanted.strict wanted.desk index names games seen.fresh held seen' mended)
     → length views ≤ 8 → (now : Views) → now ≡ views → IfSome seen.index (λ index. a' ≤ a + open_cost index)
     → ((d : Desk) (first : Views) (most : ℕ → ℕ) (script : List ℕ) → Lives held (around seen' first most now) d → left ≡ Some script → a'' ≤ a' + price_all d (script_of d.clients.tagged script))
     → seen.index ≡ Some index → seen.names ≡ Some names → seen.games ≡ Some games → left ≡ Some script
-    → Asks (given words index names games script views) a a''
+    → Asks (given words index names games seen.fresh script views) a a''
 asks_script words index names games script views seen seen' wanted held mended left a a' a'' said opens few now lent opening running i n g l =
-    let o : Opening wanted.create wanted.strict wanted.desk index names games held seen' mended =
-    told seen (λ index names games. Opening wanted.create wanted.strict wanted.desk index names games held seen' mended) index names games opens i n g in
+    let o : Opening wanted.create wanted.strict wanted.desk index names games seen.fresh held seen' mended =
+    told seen (λ index names games. Opening wanted.create wanted.strict wanted.desk index names games seen.fresh held seen' mended) index names games opens i n g in
     let P : Option (List ℕ) → Type 0 = λ x. IfSome x (λ index. a' ≤ a + open_cost index) in
     let paid : a' ≤ a + open_cost index = subst P i opening in
-    let d : Desk = desk_begin wanted.desk (is_created wanted.create index names games) (slots_by views) o.base in
-    let ran : a'' ≤ a' + price_all d (script_of d.clients.tagged script) = running d views none_told script (subst (λ (v : Views). Lives held (around seen' views none_told v) (desk_begin wanted.desk (is_created wanted.create index names games) (slots_by views) o.base)) (sym lent) (lives_first held seen' views wanted.desk (is_created wanted.create index names games) o.base few (o.stands (slots_by views) (show_none views)))) l in
-    inr (opened words index names games script views seen' wanted held mended said o, omega (arith, paid, ran))
+    let d : Desk = desk_begin wanted.desk (is_created wanted.create index names games) seen.fresh (slots_by views) o.base in
+    let ran : a'' ≤ a' + price_all d (script_of d.clients.tagged script) = running d views none_told script (subst (λ (v : Views). Lives held (around seen' views none_told v) (desk_begin wanted.desk (is_created wanted.create index names games) seen.fresh (slots_by views) o.base)) (sym lent) (lives_first held seen' views wanted.desk (is_created wanted.create index names games) seen.fresh o.base few (o.stands (slots_by views) (show_none views)))) l in
+    inr (opened words index names games seen.fresh script views seen' wanted held mended said o, omega (arith, paid, ran))

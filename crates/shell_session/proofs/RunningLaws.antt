@@ -39,7 +39,7 @@ use Rattle.shell_session.specs.Session.{Breaks, LinesDone, RanAll, RanPart, WhyS
 use Rattle.session_status.specs.Stops.{status_of_halt, status_of_reading}
 use Rattle.session_status.specs.declared.status.Status.{Status}
 use Rattle.session_status.specs.declared.status.Status.TheVariants.{InputTooLong, Memory, ReadFault}
-use Rattle.shell_session.proofs.DeskLaws.{Remains, alone_line, breaks_by, desk_carries, its_line, left_desk, same_kind, unsettled_line}
+use Rattle.shell_session.proofs.DeskLaws.{Remains, alone_line, breaks_by, desk_carries, fresh_desk, its_line, left_desk, same_kind, unsettled_line}
 use Rattle.shell_session.proofs.PriceLaws.{paid_all, paid_one}
 use Rattle.shell_session.proofs.ViewLaws.{left_alone, lives_more, lives_since, lives_twice, told_all-append, told_one}
 
@@ -206,6 +206,7 @@ ran_finished d bytes t₀ held held' around around' line ahead used l' t t' a₀
         enough = omega (arith, size, n, end.enough);
         no_further = omega (arith, size, n, end.no_further);
         files = left_desk held' around'.seen (after_all desks d (script_of d.clients.tagged bytes)) lives.stands;
+        fresh = fresh_desk held' around'.seen (after_all desks d (script_of d.clients.tagged bytes)) lives.stands;
         views = lives.views;
       },
       paid_all d (script_of d.clients.tagged bytes) at.done end.lasts a₀ a a' all at.paid end.asks,
@@ -383,6 +384,7 @@ ran_last d bytes t₀ held held' around around' line used l' t t' a₀ a at few 
       enough = omega (arith, size);
       no_further = omega (arith, size);
       files = left_desk held' around'.seen (after_all desks d (script_of d.clients.tagged bytes)) lives.stands;
+      fresh = fresh_desk held' around'.seen (after_all desks d (script_of d.clients.tagged bytes)) lives.stands;
       views = lives.views;
     }
 

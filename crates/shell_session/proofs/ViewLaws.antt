@@ -187,10 +187,10 @@ in_range views from zero k few = ap slot_by (sym (get_or_past views (from + k) N
 in_range views from (suc n) zero few = ap (λ (j : ℕ). slot_by (in_slot views j)) (omega arith)
 in_range views from (suc n) (suc k) few = in_range views (from + 1) n k (omega (arith, few)) ∙ ap (λ (j : ℕ). slot_by (in_slot views j)) (omega arith)
 
-pub lives_first : (held : DeskHolding) (seen : Seen) (views : Views) (desk created : Bool) (base : Base) → length views ≤ 8 → DeskStands held seen (desk_begin desk created (slots_by views) base)
-    → Lives held (around seen views none_told views) (desk_begin desk created (slots_by views) base)
-lives_first held seen views desk created base few stands =
-    let d : Desk = desk_begin desk created (slots_by views) base in
+pub lives_first : (held : DeskHolding) (seen : Seen) (views : Views) (desk created : Bool) (fresh : Option (List ℕ)) (base : Base) → length views ≤ 8 → DeskStands held seen (desk_begin desk created fresh (slots_by views) base)
+    → Lives held (around seen views none_told views) (desk_begin desk created fresh (slots_by views) base)
+lives_first held seen views desk created fresh base few stands =
+    let d : Desk = desk_begin desk created fresh (slots_by views) base in
     record {
       stands = stands;
       views = record {

@@ -43,10 +43,10 @@ summed of_one d (next ∷ later) = of_one d next + summed of_one (desks.after d 
 
 -- The views beside a desk: each is right, one whose slot is idle is as it was at the beginning, and one that stands is the view that stood
 -- there and was told no more changes.
-pub record AreBeside (around : Around) (d : Desk) : Type 0 where
-  pub right : AllRight (λ (view : Meaning). view.rows) d around.now
-  pub idle : (k : ℕ) → slot_at d.slots k ≡ idle → in_slot around.now k ≡ in_slot around.first k
-  pub told : AreToldAtMost (λ (view : Meaning). view.told) around.most around.first around.now
+pub record AreBeside (there : Around) (d : Desk) : Type 0 where
+  pub right : AllRight (λ (view : Meaning). view.rows) d there.now
+  pub idle : (k : ℕ) → slot_at d.slots k ≡ idle → in_slot there.now k ≡ in_slot there.first k
+  pub told : AreToldAtMost (λ (view : Meaning). view.told) there.most there.first there.now
 
 -- What a line that is broken off leaves in a slot that it does not watch: no view if it was empty, and if it was idle that of the beginning.
 abbrev pub IsLeftIn : Slot → Option Meaning → Option Meaning → Type 0
@@ -55,21 +55,21 @@ IsLeftIn idle first now = now ≡ first
 IsLeftIn (shows board) first now = ⊤
 
 abbrev pub AreLeftBy : Around → Desk → Line → Type 0
-AreLeftBy around d line = (k : ℕ) → line_watches d line k ≡ false → IsLeftIn (slot_at d.slots k) (in_slot around.first k) (in_slot around.now k)
+AreLeftBy there d line = (k : ℕ) → line_watches d line k ≡ false → IsLeftIn (slot_at d.slots k) (in_slot there.first k) (in_slot there.now k)
 
 -- ---- what only private functions cite
 
 -- The machine stands for a desk, with such views.
-pub record Lives (held : DeskHolding) (around : Around) (d : Desk) : Type 0 where
-  pub stands : DeskStands held around.seen d
-  pub views : AreBeside around d
+pub record Lives (held : DeskHolding) (there : Around) (d : Desk) : Type 0 where
+  pub stands : DeskStands held there.seen d
+  pub views : AreBeside there d
 
 abbrev pub around : Seen → Views → (ℕ → ℕ) → Views → Around
 around seen first most now = record { seen = seen; first = first; most = most; now = now }
 
 -- So many changes more were told.
 abbrev pub told_more : Around → (ℕ → ℕ) → Around
-told_more around more = record around { most = λ k. around.most k + more k }
+told_more there more = record there { most = λ k. there.most k + more k }
 
 -- How many changes some tasks tell the view of a slot at most, and what their lines ask at most.
 abbrev pub told_all : Desk → List Tagged → ℕ → ℕ

@@ -28,13 +28,13 @@ use Rattle.shell_session.specs.Session.{Breaks, WhyStatus}
 use Rattle.session_status.specs.declared.status.Status.{Status}
 use Rattle.session_status.specs.declared.status.Status.TheVariants.{BadBase, ReadFault, WriteFault, FilesFault, Changed, InputTooLong, Memory}
 
--- A base was opened: the machine stands for the desk in which a script begins.
-pub record Opening (create strict desk : Bool) (index names games : List ℕ) (held : DeskHolding) (seen : Seen) (mended : ℕ) : Type 0 where
+-- A base was opened: the machine stands for the desk in which a script begins, beside what was told of a new games file.
+pub record Opening (create strict desk : Bool) (index names games : List ℕ) (fresh : Option (List ℕ)) (held : DeskHolding) (seen : Seen) (mended : ℕ) : Type 0 where
   pub base : Base
   pub means : OpensAs create index names games base
   pub mends : Mended index base.games mended
   pub faultless : (fault : BaseFault) → Refuses create strict index names games fault → ⊥
-  pub stands : (slots : List Slot) → ShowNone slots → DeskStands held seen (desk_begin desk (is_created create index names games) slots base)
+  pub stands : (slots : List Slot) → ShowNone slots → DeskStands held seen (desk_begin desk (is_created create index names games) fresh slots base)
 
 -- Opening ends with a fault of the files' contents, the files or memory.
 abbrev pub OpeningRefused : Bool → Bool → Seen → Status → Type 0

@@ -26,17 +26,19 @@ use Rattle.shell_session.specs.Words.{Wanted, words_read}
 use Rattle.session_status.specs.declared.status.Status.{Status}
 use Rattle.session_status.specs.declared.status.Status.TheVariants.{Done, Usage, BadBase, ReadFault, WriteFault, FilesFault, Changed, InputTooLong, Memory}
 
--- What a session is given: its words, the three files of the base, the script, and the views of its slots.
+-- What a session is given: its words, the three files of the base, what is told of a new games file, the script, and the
+-- views of its slots.
 pub record Given : Type 0 where
   pub words : List (List ℕ)
   pub index : List ℕ
   pub names : List ℕ
   pub games : List ℕ
+  pub fresh : Option (List ℕ)
   pub script : List ℕ
   pub views : Views
 
-abbrev pub given : List (List ℕ) → List ℕ → List ℕ → List ℕ → List ℕ → Views → Given
-given words index names games script views = record { words = words; index = index; names = names; games = games; script = script; views = views }
+abbrev pub given : List (List ℕ) → List ℕ → List ℕ → List ℕ → Option (List ℕ) → List ℕ → Views → Given
+given words index names games fresh script views = record { words = words; index = index; names = names; games = games; fresh = fresh; script = script; views = views }
 
 -- What an input shows: the bytes left if it tells them, its budget, and its faults.
 pub record Inlet : Type 0 where
@@ -58,7 +60,7 @@ pub record Opened (given : Given) : Type 0 where
 
 -- The desk in which the script begins: of four clients if the words ask for it, and else of one.
 abbrev pub begun : (given : Given) → Opened given → Desk
-begun given opened = desk_begin opened.wanted.desk (is_created opened.wanted.create given.index given.names given.games) (slots_by given.views) opened.base
+begun given opened = desk_begin opened.wanted.desk (is_created opened.wanted.create given.index given.names given.games) given.fresh (slots_by given.views) opened.base
 
 -- The words name a base whose files have this first fault.
 abbrev pub Faulty : Given → BaseFault → Type 0
@@ -72,7 +74,8 @@ opening_text games mended = codes "base " ++ decimal games ++ codes " games " ++
 
 -- The whole script was run. Its text is written. The input was read to its end or to the line of the `quit` by which
 -- its last client ends, and at most so many bytes further. The files carry the base that the last `save` or `compact`
--- left, or the opened one, and mean it if no edit came after. Each view of a slot that shows a tree has the rows of the
+-- left, or the opened one, and mean it if no edit came after. No new games file is begun: what is told of one is as at
+-- the beginning, or that it is empty if a `compact` was done. Each view of a slot that shows a tree has the rows of the
 -- games that are in then for the slot's owner. One of a slot that was never watched is as before. None was told more
 -- changes than the tasks tell it.
 pub record RanAll (d : Desk) (script : List ℕ) (told : Option (List ℕ)) (told' : Option (List ℕ)) (later : Option (List ℕ)) (around' : Around) : Type 0 where
@@ -83,6 +86,7 @@ pub record RanAll (d : Desk) (script : List ℕ) (told : Option (List ℕ)) (tol
   pub enough : script_len d.clients.tagged script ≤ length front
   pub no_further : length front ≤ script_len d.clients.tagged script + piece_len
   pub files : AreLeft around'.seen (after_all desks d (script_of d.clients.tagged script)).shared.carried (after_all desks d (script_of d.clients.tagged script)).shared.unsaved
+  pub fresh : around'.seen.fresh ≡ (after_all desks d (script_of d.clients.tagged script)).shared.fresh
   pub views : AreBeside (record around' { most = λ k. around'.most k + summed (λ d next. line_told d next k) d (script_of d.clients.tagged script) })
       (after_all desks d (script_of d.clients.tagged script))
 
@@ -141,8 +145,7 @@ pub record OpeningCut (given : Given) (told : Option (List ℕ)) (told' : Option
 -- The opening line was written, and the run of the script stopped.
 pub record ScriptCut (status : Status) (given : Given) (told : Option (List ℕ)) (told' : Option (List ℕ)) (later : Option (List ℕ)) (around' : Around) : Type 0 where
   pub opened : Opened given
-  pub ran :
-      RanPart status (begun given opened) given.script (adds told (opening_text (length opened.base.games) opened.mended)) told' later around'
+  pub ran : RanPart status (begun given opened) given.script (adds told (opening_text (length opened.base.games) opened.mended)) told' later around'
 
 -- What each status says of what was given, of what was written, of what was read, of what the files carry, and of the views. At the end the
 -- whole text was written: the opening line, and then what the plain machine of the desk makes of the script. Told records never change.
@@ -153,8 +156,7 @@ Answers given told told' input input' around' Done =
 Answers given told told' input input' around' Usage = (words_read given.words ≡ None) × (told' ≡ told) × Unbegun given input input' around'
 Answers given told told' input input' around' (BadBase fault) = Faulty given fault × (told' ≡ told) × Unbegun given input input' around'
 Answers given told told' input input' around' WriteFault = OpeningCut given told told' input input' around' ⊎ ScriptCut WriteFault given told told' input'.left around'
-Answers given told told' input input' around' FilesFault =
-    ((told' ≡ told) × Unbegun given input input' around') ⊎ ScriptCut FilesFault given told told' input'.left around'
+Answers given told told' input input' around' FilesFault = ((told' ≡ told) × Unbegun given input input' around') ⊎ ScriptCut FilesFault given told told' input'.left around'
 Answers given told told' input input' around' Memory =
     ((told' ≡ told) × Unbegun given input input' around')
     ⊎ (OpeningCut given told told' input input' around' ⊎ ScriptCut Memory given told told' input'.left around')
@@ -175,8 +177,7 @@ abbrev pub Asks : Given → ℕ → ℕ → Type 0
 Asks given old new =
     (new ≤ old + open_cost given.index)
     ⊎ ((opened : Opened given) × (new ≤ old + (open_cost given.index
-    + summed (λ d next. line_price d (said next.client next.task.order)) (begun given opened)
-    (script_of opened.wanted.desk given.script))))
+    + summed (λ d next. line_price d (said next.client next.task.order)) (begun given opened) (script_of opened.wanted.desk given.script))))
 
 -- ---- causes, for every files, input and output
 

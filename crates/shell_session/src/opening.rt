@@ -31,7 +31,7 @@ pub(crate) fn open<F: Files>(
     files: &mut F,
     wanted: &Wanted,
 ) -> Result<(Desk, u32), Status>
-    ensures opens { IfOk result (λ opened. IfTold (F.seen files.old) (λ index names games. Opening wanted.now.create wanted.now.strict wanted.now.desk index names games opened.0 (F.seen files.new) opened.1)) }
+    ensures opens { IfOk result (λ opened. IfTold (F.seen files.old) (λ index names games. Opening wanted.now.create wanted.now.strict wanted.now.desk index names games (F.seen files.old).fresh opened.0 (F.seen files.new) opened.1)) }
     ensures refused { IfErr result (OpeningRefused wanted.now.create wanted.now.strict (F.seen files.old)) }
     ensures sound { IfOk result (λ opened. DeskSound opened.0 (F.seen files.new)) }
     ensures fresh { IfOk result (λ opened. opened.0.clients ≡ new_clients opened.0.clients.tagged) }

@@ -41,14 +41,14 @@ pub fn session<F: Files, S: Source, K: Sink>(
     // If the files and the input tell their contents, the status says what was written, of what was given, what the files carry, and what
     // the views show.
     ensures answers { (index names games script : List ℕ) → (F.seen files.old).index ≡ Some index → (F.seen files.old).names ≡ Some names → (F.seen files.old).games ≡ Some games → S.left input.old ≡ Some script →
-        Answers (given (map string_bytes words.now) index names games script (meanings (λ b. rows b) (λ b. told b) views.old.items)) (K.taken out.old) (K.taken out.new)
+        Answers (given (map string_bytes words.now) index names games (F.seen files.old).fresh script (meanings (λ b. rows b) (λ b. told b) views.old.items)) (K.taken out.old) (K.taken out.new)
         (record { left = S.left input.old; budget = S.budget input.old; faults = S.faults input.old }) (record { left = S.left input.new; budget = S.budget input.new; faults = S.faults input.new })
         (record { seen = F.seen files.new; first = meanings (λ b. rows b) (λ b. told b) views.old.items; most = λ _. 0; now = meanings (λ b. rows b) (λ b. told b) views.new.items }) result }
 
     // If no count of faults rises, the status is the one that is due, or memory ran out.
     ensures due { (index names games script : List ℕ) → (F.seen files.old).index ≡ Some index → (F.seen files.old).names ≡ Some names → (F.seen files.old).games ≡ Some games → S.left input.old ≡ Some script →
         ¬ Rose (F.faults files.old) (F.faults files.new) → ¬ Rose (S.faults input.old) (S.faults input.new) → ¬ Rose (K.faults out.old) (K.faults out.new) →
-        (result ≡ Status.Memory) ⊎ Due (given (map string_bytes words.now) index names games script (meanings (λ b. rows b) (λ b. told b) views.old.items)) result }
+        (result ≡ Status.Memory) ⊎ Due (given (map string_bytes words.now) index names games (F.seen files.old).fresh script (meanings (λ b. rows b) (λ b. told b) views.old.items)) result }
 
     // The words decide alone, and first.
     ensures words { (result ≡ Status.Usage) ↔ (words_read (map string_bytes words.now) ≡ None) }
@@ -59,7 +59,7 @@ pub fn session<F: Files, S: Source, K: Sink>(
 
     // The bytes that are asked of the games file.
     ensures asks { (index names games script : List ℕ) → (F.seen files.old).index ≡ Some index → (F.seen files.old).names ≡ Some names → (F.seen files.old).games ≡ Some games → S.left input.old ≡ Some script →
-        Asks (given (map string_bytes words.now) index names games script (meanings (λ b. rows b) (λ b. told b) views.old.items)) (F.asked files.old) (F.asked files.new) }
+        Asks (given (map string_bytes words.now) index names games (F.seen files.old).fresh script (meanings (λ b. rows b) (λ b. told b) views.old.items)) (F.asked files.old) (F.asked files.new) }
 
     // Whatever the files tell, nothing is written if the words or the files refuse, and the views are as they were.
     ensures silent { StaysIfRefused result (K.taken out.old) (K.taken out.new) }

@@ -129,6 +129,7 @@ game_added old new tables tables' filter filter' saved saved' seen seen' s head 
         unsaved = unsaved;
         carried = beside_grown old new seen seen' bytes s.shared.unsaved s.shared.carried is names st.carried;
         tables = grown;
+        fresh = ap (λ (x : Seen). x.fresh) is ∙ st.fresh;
       };
       free = open_index s.shared head game (index_open (held_by old tables filter saved) seen s false st roomy)
           ∙ (sym (kept-why old st.games s.shared.base (length old.entries + 1) (length s.shared.base.games + 1) head game st.base more) ∙ none_refused _ _ room);

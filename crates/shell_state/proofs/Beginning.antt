@@ -28,11 +28,11 @@ beside_open kept seen base is =
 begun_tables : (slots : List Slot) (base : Base) → ShowNone slots → no_tables ≡ tables_by None slots base.games
 begun_tables slots base none = ap (λ (hits : List (Option HitTable)). record { index = None; hits = hits }) (sym (none base.games))
 
-begun_so : (kept : Kept) (seen : Seen) (created : Bool) (slots : List Slot) (base : Base) → ShowNone slots → IsOpen kept seen created base → Stands (first_holding kept) seen (begin created slots base)
+begun_so : (kept : Kept) (seen : Seen) (created : Bool) (slots : List Slot) (base : Base) → ShowNone slots → IsOpen kept seen created base → Stands (first_holding kept) seen (begin created seen.fresh slots base)
 begun_so kept seen true slots base none is =
-    record { games = is.contents.games; told = is.contents.games_told; base = is.represents; seat = ap first_seat is.represents.count; unsaved = is.saved; carried = is.means; tables = begun_tables slots base none }
+    record { games = is.contents.games; told = is.contents.games_told; base = is.represents; seat = ap first_seat is.represents.count; unsaved = is.saved; carried = is.means; tables = begun_tables slots base none; fresh = refl }
 begun_so kept seen false slots base none is =
-    record { games = is.contents.games; told = is.contents.games_told; base = is.represents; seat = ap first_seat is.represents.count; unsaved = is.saved; carried = beside_open kept seen base is; tables = begun_tables slots base none }
+    record { games = is.contents.games; told = is.contents.games_told; base = is.represents; seat = ap first_seat is.represents.count; unsaved = is.saved; carried = beside_open kept seen base is; tables = begun_tables slots base none; fresh = refl }
 
 begins_first : (kept : Kept) → IsSound kept → Begins kept (first_holding kept)
 begins_first kept is_sound = record {

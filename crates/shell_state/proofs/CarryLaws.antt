@@ -6,30 +6,31 @@ use Rattle.base_core.proofs.SaveLaws.{holds-more}
 use Rattle.base_core.specs.Base.{Base}
 use Rattle.base_core.specs.Means.{HoldsNames, Means}
 use Rattle.base_core.specs.Represents.{Kept}
+use Rattle.base_core.specs.Saved.{AreWhole}
 use Rattle.base_files.specs.Seen.{Seen, appended}
 use Rattle.base_files.specs.Told.{adds, Grew}
 use Rattle.name_base.specs.NameLists.{NameLists}
-use Rattle.shell_state.specs.Carrying.{IsFaultless, Beside, Contents, AreBeside, AreLeft, CarryIt, Settled, StillCarry}
+use Rattle.shell_state.specs.Carrying.{Beside, Contents, AreBeside, AreLeft, CarryIt, Settled, StillCarry}
 use Rattle.shell_state.specs.Stands.{Holding, Stands}
 use Rattle.shell_state.specs.State.{Carried, State}
 use Rattle.shell_state.specs.declared.halt.Halt.{Halt}
 
 -- Files that mean a base whose names are kept.
-pub beside_meant : (kept : Kept) (seen : Seen) (base : Base) (sound : Bool) → (c : Contents seen) → kept.names ≡ base.names → Means c.index c.names c.games base → (sound ≡ true → IsFaultless c.index c.names c.games)
+pub beside_meant : (kept : Kept) (seen : Seen) (base : Base) (sound : Bool) → (c : Contents seen) → kept.names ≡ base.names → Means c.index c.names c.games base → (sound ≡ true → AreWhole c.index c.names c.games base)
     → Beside kept seen false (record { base = base; sound = sound })
-beside_meant kept seen base sound c names means opens =
+beside_meant kept seen base sound c names means whole =
     let carries = means-carries c.index c.names c.games base means in
     record {
       contents = c;
       carries = record { header = means.header; all_names = base.names; lists = means.lists; more_names = holds-own base.names; end = carries.end; held = means.held };
       names = subst (λ (n : NameLists). HoldsNames n base.names) (sym names) (holds-own base.names);
       means = λ clean. means;
-      opens = λ clean. opens;
+      whole = λ clean. whole;
     }
 
 -- After the commands of a script, and where one was broken off.
 pub carried_left : (kept : Kept) (seen : Seen) (unsaved : Bool) (carried : Option Carried) → AreBeside kept seen unsaved carried → AreLeft seen carried unsaved
-carried_left kept seen unsaved (Some carried) b = ((b.contents, b.carries), (λ clean. (b.contents, b.means clean), λ clean sound. (b.contents, b.opens clean sound)))
+carried_left kept seen unsaved (Some carried) b = ((b.contents, b.carries), (λ clean. (b.contents, b.means clean), λ clean sound. (b.contents, b.whole clean sound)))
 carried_left kept seen unsaved None b = b
 
 -- Where there is a base that is carried: it, or what a command leaves of another one; and it alone.
@@ -39,7 +40,7 @@ MayCarry seen carried left base = IfSome carried (λ (own : Carried). CarryIt se
 abbrev pub CarryAfter : Seen → Option Carried → Type 0
 CarryAfter seen carried = IfSome carried (λ (own : Carried). CarryIt seen own.base)
 
-may_carry : (kept : Kept) (seen : Seen) (unsaved : Bool) (carried : Option Carried) (left : Option (Base → Base)) (base : Base) → AreBeside kept seen unsaved carried → MayCarry seen carried left base
+pub may_carry : (kept : Kept) (seen : Seen) (unsaved : Bool) (carried : Option Carried) (left : Option (Base → Base)) (base : Base) → AreBeside kept seen unsaved carried → MayCarry seen carried left base
 may_carry kept seen unsaved (Some own) left base b = inl (b.contents, b.carries)
 may_carry kept seen unsaved None left base b = tt
 
@@ -91,7 +92,7 @@ beside_grown old new seen seen' more unsaved (Some carried) is names b =
       };
       names = holds-more new.names old.names b.carries.all_names names b.names;
       means = λ clean. absurd (true≢false clean);
-      opens = λ clean. absurd (true≢false clean);
+      whole = λ clean. absurd (true≢false clean);
     }
 beside_grown old new seen seen' more unsaved None is names b = (ap (λ (s : Seen). s.index) is ∙ b.0, ap (λ (s : Seen). s.names) is ∙ b.1)
 
@@ -107,7 +108,7 @@ beside_edited old new seen unsaved (Some base) names b = record {
   carries = b.carries;
   names = subst (λ (n : NameLists). HoldsNames n b.carries.all_names) (sym names) b.names;
   means = λ clean. absurd (true≢false clean);
-  opens = λ clean. absurd (true≢false clean);
+  whole = λ clean. absurd (true≢false clean);
 }
 beside_edited old new seen unsaved None names b = b
 

@@ -89,6 +89,7 @@ quiet_by F G T old new work line after says kept tables filter saved written fit
         unsaved = ap (λ (k : Kept). k.unsaved) kept ∙ st.unsaved;
         carried = subst (λ (k : Kept). AreBeside k seen s.shared.unsaved s.shared.carried) (sym kept) st.carried;
         tables = tables ∙ st.tables;
+        fresh = st.fresh;
       } in
       subst (Stands new seen) (sym (after s)) standing;
   text = λ (seen : Seen) (s : State) (st : Stands old seen s).

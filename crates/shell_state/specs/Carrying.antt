@@ -1,10 +1,9 @@
 -- What the files carry while a script runs. This project's own.
 use Rattle.std.specs.Prelude.{true, ◌≡◌, ℕ, List, Some, Bool, false, [], Option, None, IfSome, IsSomeAnd, ◌⊎◌}
 use Rattle.base_core.specs.Base.{Base}
-use Rattle.base_core.specs.FirstFault.{FirstFault}
 use Rattle.base_core.specs.Means.{Carries, Means, HoldsNames}
 use Rattle.base_core.specs.Represents.{Kept}
-use Rattle.base_core.specs.declared.fault.BaseFault.{BaseFault}
+use Rattle.base_core.specs.Saved.{AreWhole}
 use Rattle.base_files.specs.Seen.{Seen}
 use Rattle.shell_state.specs.State.{Carried, State}
 
@@ -21,18 +20,14 @@ pub record Contents (seen : Seen) : Type 0 where
 abbrev pub CarryIt : Seen → Base → Type 0
 CarryIt seen base = (c : Contents seen) × Carries c.index c.names c.games base
 
--- They have no fault, however strict the opening is.
-abbrev pub IsFaultless : List ℕ → List ℕ → List ℕ → Type 0
-IsFaultless index names games = (strict : Bool) (fault : BaseFault) → FirstFault strict index names games fault → ⊥
-
 -- The files beside a base that is open. They carry this base, whose names have the same ids in what is kept. If nothing
--- is unsaved they mean it, without a fault if it was written as a whole.
+-- is unsaved they mean it, and were written as a whole for it if it was saved or compacted.
 pub record Beside (kept : Kept) (seen : Seen) (unsaved : Bool) (carried : Carried) : Type 0 where
   pub contents : Contents seen
   pub carries : Carries contents.index contents.names contents.games carried.base
   pub names : HoldsNames kept.names carries.all_names
   pub means : unsaved ≡ false → Means contents.index contents.names contents.games carried.base
-  pub opens : unsaved ≡ false → carried.sound ≡ true → IsFaultless contents.index contents.names contents.games
+  pub whole : unsaved ≡ false → carried.sound ≡ true → AreWhole contents.index contents.names contents.games carried.base
 
 -- The index and the names file are empty.
 abbrev pub AreEmpty : Seen → Type 0
@@ -45,13 +40,13 @@ AreBeside kept seen unsaved (Some carried) = Beside kept seen unsaved carried
 AreBeside kept seen unsaved None = AreEmpty seen
 
 -- The files after the commands of a script. They carry the base that was opened, or saved or compacted last, and mean
--- it if no edit came after. One that was saved or compacted opens again then without a fault, however strict the
--- opening is. Those of a base that was created and neither saved nor compacted are empty.
+-- it if no edit came after. They were written as a whole then for one that was saved or compacted. Those of a base that
+-- was created and neither saved nor compacted are empty.
 abbrev pub AreLeft : Seen → Option Carried → Bool → Type 0
 AreLeft seen (Some carried) unsaved =
     CarryIt seen carried.base
     × ((unsaved ≡ false → (c : Contents seen) × Means c.index c.names c.games carried.base)
-    × (unsaved ≡ false → carried.sound ≡ true → (c : Contents seen) × IsFaultless c.index c.names c.games))
+    × (unsaved ≡ false → carried.sound ≡ true → (c : Contents seen) × AreWhole c.index c.names c.games carried.base))
 AreLeft seen None unsaved = AreEmpty seen
 
 -- What the files carry if a command was broken off: what they carried before it, or perhaps what it leaves of a base that replaces them.

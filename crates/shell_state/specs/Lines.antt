@@ -1,6 +1,8 @@
 -- The lines that commands write. This project's own.
 use Rattle.std.specs.Fmt.{decimal}
-use Rattle.std.specs.Prelude.{ℕ, List, [], ◌∷◌, ◌++◌, codes, ◌+◌, length, Option, Some, None}
+use Rattle.std.specs.List.{enumerate_from}
+use Rattle.std.specs.Option.{option_map_or}
+use Rattle.std.specs.Prelude.{ℕ, List, [], ◌∷◌, ◌++◌, codes, flat_map, length, Option, zip}
 use Rattle.chess_text.specs.declared.fault.SanFault.{SanFault}
 use Rattle.chess_text.specs.declared.fault.SanFault.TheVariants as san
 use Rattle.game_filter.specs.Filter.{count_in}
@@ -42,9 +44,7 @@ hit_line game ply = decimal game ++ codes " " ++ decimal ply ++ 10 ∷ []
 
 -- The lines of the games that are in, the first entry being that of this game.
 abbrev pub hit_lines : ℕ → List (Option ℕ) → List ℕ
-hit_lines game [] = []
-hit_lines game (Some ply ∷ plies) = hit_line game ply ++ hit_lines (game + 1) plies
-hit_lines game (None ∷ plies) = hit_lines (game + 1) plies
+hit_lines game plies = flat_map (λ entry. option_map_or (λ ply. hit_line entry.0 ply) entry.1 []) (enumerate_from game plies)
 
 -- What `hits` and `find` write.
 abbrev pub hits_text : List (Option ℕ) → List ℕ
@@ -52,9 +52,7 @@ hits_text plies = hit_lines 0 plies ++ filter_line plies
 
 -- The texts of the entries of a filter, each beside what there is of its game, the first being that of this game.
 abbrev pub texts_from : {A : Type 0} → (ℕ → Option ℕ → A → List ℕ) → ℕ → List (Option ℕ) → List A → List ℕ
-texts_from text game [] items = []
-texts_from text game (ply ∷ plies) [] = []
-texts_from text game (ply ∷ plies) (item ∷ items) = text game ply item ++ texts_from text (game + 1) plies items
+texts_from text game plies items = flat_map (λ entry. text entry.0 entry.1.0 entry.1.1) (enumerate_from game (zip plies items))
 
 -- A word and a name.
 abbrev pub name_line : List ℕ → List ℕ → List ℕ

@@ -1,5 +1,5 @@
 -- What is read of the games to find those that meet a position, and what a tree counts of them. This project's own.
-use Rattle.std.specs.Prelude.{ℕ, Option, List, Some, None, [], ◌∷◌, ◌++◌}
+use Rattle.std.specs.Prelude.{ℕ, Option, List, None, flat_map, option_to_list, zip, is_some, if◌then◌else◌}
 use Rattle.base_core.specs.Base.{Held}
 use Rattle.game_filter.specs.declared.op.Op.{Op}
 use Rattle.pos_search.specs.Searching.{is_read}
@@ -17,18 +17,11 @@ position_len op query looks plies = searched_len (λ look. look.len) (λ look. i
 
 -- What the tree counts of a game that is in; one that is out is not counted.
 abbrev pub hit_if_in : PosQuery → Option ℕ → Held → Option GameHit
-hit_if_in query (Some ply) held = hit_of_game query held
-hit_if_in query None held = None
+hit_if_in query ply held = if is_some ply then hit_of_game query held else None
 
 -- The hits of the games that are in, in their order.
-abbrev pub listed_hit : Option GameHit → List GameHit
-listed_hit (Some hit) = hit ∷ []
-listed_hit None = []
-
 abbrev pub tree_hits : PosQuery → List (Option ℕ) → List Held → List GameHit
-tree_hits query [] games = []
-tree_hits query (ply ∷ plies) [] = []
-tree_hits query (ply ∷ plies) (held ∷ games) = listed_hit (hit_if_in query ply held) ++ tree_hits query plies games
+tree_hits query plies games = flat_map (λ entry. option_to_list (hit_if_in query entry.0 entry.1)) (zip plies games)
 
 -- The text of the rows of the games that are in and meet the board on all squares.
 abbrev pub tree_of : PosQuery → List (Option ℕ) → List Held → List ℕ

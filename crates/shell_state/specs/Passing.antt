@@ -1,17 +1,16 @@
 -- Which games the searches read, by their signatures, and the bytes of their records. This project's own.
-use Rattle.std.specs.Prelude.{ℕ, Option, Some, None, ◌+◌, List, [], ◌∷◌, if◌then◌else◌, Bool, ◌&&◌}
+use Rattle.std.specs.Option.{option_map_or}
+use Rattle.std.specs.Prelude.{ℕ, Option, ◌+◌, List, [], ◌∷◌, if◌then◌else◌, Bool, ◌&&◌, is_some}
 use Rattle.game_filter.specs.Search.{looks_at}
 use Rattle.game_filter.specs.declared.op.Op.{Op}
 
 -- The length of the record of a game, if there is one.
 abbrev pub len_in : {A : Type 0} → (A → ℕ) → Option A → ℕ
-len_in len (Some game) = len game
-len_in len None = 0
+len_in len game = option_map_or len game 0
 
 -- The length of the record of a game that is in.
 abbrev pub len_if_in : Option ℕ → ℕ → ℕ
-len_if_in (Some ply) len = len
-len_if_in None len = 0
+len_if_in ply len = if is_some ply then len else 0
 
 -- The lengths of the records of the games that are in, all told.
 abbrev pub filtered_len : {A : Type 0} → (A → ℕ) → List (Option ℕ) → List A → ℕ

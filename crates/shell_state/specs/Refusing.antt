@@ -1,5 +1,6 @@
 -- Why a game is not placed, and the error line for it. This project's own.
-use Rattle.std.specs.Prelude.{ℕ, ◌+◌, ◌*◌, Bool, false, None, List, codes, nat_lt, if◌then◌else◌, Option, Some, option_map, length}
+use Rattle.std.specs.Option.{option_map_or}
+use Rattle.std.specs.Prelude.{ℕ, ◌+◌, ◌*◌, Bool, false, List, codes, nat_lt, if◌then◌else◌, Option, Some, option_map, length}
 use Rattle.base_core.specs.Base.{Base}
 use Rattle.base_core.specs.Edited.{first_full}
 use Rattle.base_core.specs.Edits.{names_with, end_with}
@@ -29,8 +30,7 @@ refusal_line why = error_line (refusal_words why)
 
 -- A position index to this depth, if there is one, has no room for so many games.
 abbrev pub index_is_full : Option ℕ → ℕ → Bool
-index_is_full None games = false
-index_is_full (Some depth) games = nat_lt 16000000 (games * (depth + 1))
+index_is_full depth games = option_map_or (λ depth. nat_lt 16000000 (games * (depth + 1))) depth false
 
 -- The first reason against a record of so many bytes by which this would be full.
 abbrev pub refusal : ℕ → Option What → Option Refusal

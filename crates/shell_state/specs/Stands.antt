@@ -62,6 +62,7 @@ pub record Stands (holding : Holding) (seen : Seen) (s : State) : Type 0 where
   pub carried : AreBeside holding.kept seen s.shared.unsaved s.shared.carried
   pub tables : holding.tables ≡ tables_by s.shared.index s.slots s.shared.base.games
   pub seat : holding.seat ≡ s.seat
+  pub fresh : seen.fresh ≡ s.shared.fresh
 
 -- Each filter of a machine has an entry for each game.
 abbrev pub Fits : Holding → Type 0
@@ -159,4 +160,4 @@ ShowNone slots = (games : List Held) → tables_of games slots ≡ replicate 8 N
 pub record Begins (kept : Kept) (holding : Holding) : Type 0 where
   pub sound : (seen : Seen) → IsEnd kept.end seen → Sound holding seen
   pub stands : (seen : Seen) (created : Bool) (slots : List Slot) (base : Base) → ShowNone slots → IsOpen kept seen created base
-      → Stands holding seen (begin created slots base)
+      → Stands holding seen (begin created seen.fresh slots base)

@@ -15,12 +15,14 @@ pub record Carried : Type 0 where
 
 -- What all users of a base share: the base, the one that the files carry, whether changes are unsaved, and the depth of
 -- the position index, if there is one. The files carry the base that was opened, or saved or compacted last. They carry
--- none if it was created and neither came.
+-- none if it was created and neither came. Beside them stands what they tell of a new games file: what they told at the
+-- beginning, and since a compaction that it is empty.
 pub record Shared : Type 0 where
   pub base : Base
   pub carried : Option Carried
   pub unsaved : Bool
   pub index : Option ℕ
+  pub fresh : Option (List ℕ)
 
 -- The files carry this base, and open so, since it was written as a whole.
 abbrev pub saved_whole : Shared → Base → Shared
@@ -59,11 +61,11 @@ games_of s = map (λ held. held.game) s.shared.base.games
 abbrev pub with_index : State → Option ℕ → State
 with_index s depth = record s { shared = record s.shared { index = depth } }
 
--- The state in which a script begins over a base that was opened or, in an empty folder, created. Every game is in at
--- ply 0, and nothing is kept or unsaved, or indexed. Its slots are these.
-abbrev pub begin : Bool → List Slot → Base → State
-begin created slots base = record {
-  shared = record { base = base; carried = if created then None else Some (record { base = base; sound = false }); unsaved = false; index = None };
+-- The state in which a script begins over a base that was opened or, in an empty folder, created, beside what the files
+-- tell of a new games file. Every game is in at ply 0, and nothing is kept or unsaved, or indexed. Its slots are these.
+abbrev pub begin : Bool → Option (List ℕ) → List Slot → Base → State
+begin created fresh slots base = record {
+  shared = record { base = base; carried = if created then None else Some (record { base = base; sound = false }); unsaved = false; index = None; fresh = fresh };
   seat = first_seat (length base.games);
   slots = slots;
 }

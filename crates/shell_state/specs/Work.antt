@@ -1,5 +1,6 @@
 -- What a command does, whichever it is. This project's own.
-use Rattle.std.specs.Prelude.{ℕ, Bool, true, false, List, [], map, Option, None, Some}
+use Rattle.std.specs.Option.{option_map_or}
+use Rattle.std.specs.Prelude.{ℕ, Bool, true, false, List, [], map, Option, None}
 use Rattle.base_core.specs.Base.{Base, Held}
 use Rattle.command_runs.specs.Plain.{Plain}
 use Rattle.filter_seat.specs.Seats.{Seat}
@@ -21,8 +22,7 @@ pub record Look : Type 0 where
 
 -- The places that an index to this depth has of a game, and none without an index.
 abbrev pub indexed_places : Option ℕ → GameTree → List Place
-indexed_places None game = []
-indexed_places (Some depth) game = places_of depth game
+indexed_places depth game = option_map_or (λ depth. places_of depth game) depth []
 
 abbrev pub look_of : Option ℕ → Held → Look
 look_of depth held = record { len = held.len; sig = sig_of held.game; head = without_tags held.head; places = indexed_places depth held.game }

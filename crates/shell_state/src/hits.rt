@@ -1,5 +1,5 @@
 //! What trees count of games: of one that comes in, for each slot that shows a tree, and of one that is there.
-ghost use Rattle.std.specs.Prelude.{◌≡◌, ◌≤◌, ◌<◌, ◌+◌, ℕ, if◌then◌else◌, List, Option, Some, length, map, option_and_then, option_map, slice_get, IfErr, IfOk, IfSome, OnOk};
+ghost use Rattle.std.specs.Prelude.{◌≡◌, ◌≤◌, ◌<◌, ◌+◌, ℕ, if◌then◌else◌, false, List, None, Option, Some, length, map, option_and_then, option_map, slice_get, IfErr, IfOk, IfSome, IsTrue, OnOk};
 ghost use Rattle.base_core.specs.Base.{Base as PlainBase, Held};
 ghost use Rattle.base_core.specs.Represents.{IsSound, Represents, extents_of, heads_of, sigs_of};
 ghost use Rattle.base_files.specs.Counters.{raised};
@@ -87,6 +87,19 @@ pub fn counted(base: &Base, i: u32, next: Option<Move>, side: Colour) -> GameHit
         base.black_rating(i).value,
         base.date(i).year,
     )
+}
+
+/// Whether game `i` is known not to meet the position, without its record and without a look at the hits that an index has. Any other game
+/// may not meet it, too.
+#[inline(always)]
+pub fn is_passed(base: &Base, i: u32, query: &Sought<'_>, told: &Told<'_>) -> bool
+    requires squares { length query.now.board ≡ 64 }
+    requires there { i < length base.now.entries }
+    ensures none { (contents : List ℕ) (all : PlainBase) (held : Held) (index : Option Index) → IsTrue result → Represents base.now contents all → slice_get all.games i ≡ Some held
+        → told.now ≡ hits_told query.now (rows_told index) → IndexesAll index (map (λ h. h.game) all.games) → None ≡ hit_of_game query.now held }
+    ensures unread { (sig : Sig) (rows : List (List Place)) → IsTrue result → slice_get (sigs_of base.now) i ≡ Some sig → told.now ≡ hits_told query.now rows → is_read query.now (places_in rows i) sig ≡ false }
+{
+    pos_search::is_passed(told, i, query, &base.brief(i))
 }
 
 /// The hit of a game, if it meets the position. Its record is read into `block` if it can and the index does not decide it.

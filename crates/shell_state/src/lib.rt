@@ -12,7 +12,7 @@ mod short_lines;
 mod writing;
 
 pub use halt::{Halt, halt_of};
-pub use hits::{counted, hits_of, read_hit};
+pub use hits::{counted, hits_of, is_passed, read_hit};
 pub use indexing::replace_in_index;
 pub use lines::{error_line, fault_line, game_line, line_of, no_game_line, san_words};
 pub use machine::Machine;

@@ -1,5 +1,6 @@
 -- The commands that write games in Portable Game Notation. This project's own.
-use Rattle.std.specs.Prelude.{ℕ, true, List, Option, Some, None, slice_get, [], ◌∷◌, take, ◌≡◌, ◌+◌, ◌++◌}
+use Rattle.std.specs.Option.{option_map_or}
+use Rattle.std.specs.Prelude.{ℕ, true, List, Option, Some, None, slice_get, [], ◌∷◌, take, ◌≡◌, ◌+◌, ◌++◌, is_some, if◌then◌else◌}
 use Rattle.base_core.specs.Base.{Held}
 use Rattle.base_core.specs.Entries.{head_of, sig_in}
 use Rattle.base_core.specs.Represents.{Kept}
@@ -27,16 +28,14 @@ game_text held = pgn_of held.head held.game
 
 -- show G
 abbrev pub shown : ℕ → Option Held → List ℕ
-shown game (Some held) = game_text held
-shown game None = no_game_line game
+shown game held = option_map_or game_text held (no_game_line game)
 
 abbrev pub show_text : State → ℕ → List ℕ
 show_text s game = shown game (slice_get s.shared.base.games game)
 
 -- The text of a game that is in; one that is out has none.
 abbrev pub text_if_in : ℕ → Option ℕ → Held → List ℕ
-text_if_in game (Some ply) held = game_text held
-text_if_in game None held = []
+text_if_in game ply held = if is_some ply then game_text held else []
 
 -- export
 abbrev pub exported : List (Option ℕ) → List Held → List ℕ

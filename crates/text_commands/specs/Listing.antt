@@ -1,6 +1,7 @@
 -- The command that lists the games of the filter. This project's own.
 use Rattle.std.specs.Fmt.{decimal}
-use Rattle.std.specs.Prelude.{ℕ, List, ◌++◌, codes, ◌==◌, if◌then◌else◌, [], ◌∷◌, Option, Some, None, map, ◌-◌}
+use Rattle.std.specs.Option.{option_map_or}
+use Rattle.std.specs.Prelude.{ℕ, List, ◌++◌, codes, ◌==◌, if◌then◌else◌, [], ◌∷◌, Option, map, ◌-◌}
 use Rattle.game_tree.specs.Date.{date_text}
 use Rattle.game_tree.specs.Eco.{eco_text}
 use Rattle.game_tree.specs.Outcome.{outcome_text}
@@ -27,8 +28,7 @@ listed game ply head = listed_numbers game ply ++ (listed_facts head ++ listed_p
 
 -- A game that is out has no line.
 abbrev pub listed_if_in : ℕ → Option ℕ → Head → List ℕ
-listed_if_in game (Some ply) head = listed game ply head
-listed_if_in game None head = []
+listed_if_in game ply head = option_map_or (λ ply. listed game ply head) ply []
 
 -- list
 abbrev pub list_of : List (Option ℕ) → List Head → List ℕ

@@ -2,7 +2,7 @@
 use Rattle.std.proofs.Common.{◌≡◌, ℕ, ◌+◌, ◌<◌, ◌≤◌, ◌==◌, Bool, true, false, zero, suc, nat_lt, List, [], ◌∷◌, Option, Some, None, IfSome, length, option_map, replicate, set, refl, sym, ap, subst, ◌∙◌, arith}
 use Rattle.std.proofs.lemmas.Bool.{eqb-false, eqb-true, ltb-true, ltb-false}
 use Rattle.std.proofs.lemmas.List.{get_or_past, get_or-set_other, get_or-set_same}
-use Rattle.std.specs.Option.{IsSome}
+use Rattle.std.specs.Option.{IsSome, IsSomeAnd}
 use Rattle.game_filter.specs.Renumbering.{renumbered}
 use Rattle.tree_rows.specs.declared.row.Row.{Row}
 use Rattle.tree_rows.specs.Rows.{rows_of}
@@ -11,16 +11,16 @@ use Rattle.tree_live.specs.declared.change.Change.{Change}
 use Rattle.tree_live.specs.declared.change.Change.TheVariants.{Filter, Game, Numbers}
 use Rattle.tree_live.specs.RowChanges.{rows_changed}
 use Rattle.tree_live.specs.Watching.{Watched, hits_in, under, with_game}
-use Rattle.tree_live.specs.Slots.{AreBelow, AreShown, AreTold, EachWatch, Fits, IsShown, IsShownIf, IsTold, IsToldRows, Slotted, changed, in_slot, most_told, rows_in}
+use Rattle.tree_live.specs.Slots.{AreBelow, AreShown, AreTold, EachWatch, Fits, IsTold, Slotted, changed, in_slot, most_told, rows_in}
 use Rattle.tree_live.specs.Following.{Followed}
 use Rattle.tree_live.specs.Showing.{ShownBelow, ToldEach}
-use Rattle.tree_live.specs.Views.{Told}
+use Rattle.tree_live.specs.Views.{Told, Shows, ToldMore, ToldRows}
 use Rattle.tree_live.proofs.TellingLaws.{told-nothing-more}
 use Rattle.tree_live.proofs.ChangeLaws.{few-under, few-with, few-renumbered}
 
 -- a slot to which nothing was brought
-told-nothing : {B : Type 0} (rows : B → List Row) (told : B → Told) (few : Watched → ℕ) (watch : Option Watched) (slot : Option B) → IsShown rows watch slot
-    → IsTold told (option_map few watch) slot slot
+told-nothing : {B : Type 0} (rows : B → List Row) (told : B → Told) (few : Watched → ℕ) (watch : Option Watched) (slot : Option B) → IfSome watch (λ watch. IsSomeAnd slot (λ view. Shows (hits_in watch.games) (rows view)))
+    → IsTold (λ most old new. ToldMore most (told old) (told new)) (option_map few watch) slot slot
 told-nothing rows told few None slot h = refl
 told-nothing rows told few (Some watch) None h = absurd h
 told-nothing rows told few (Some watch) (Some view) h = told-nothing-more (few watch) (told view)
@@ -54,13 +54,13 @@ all-followed change k watches after all followed j = by (nat_lt j k) refl
         followed.left j (ltb-false j k e) ∙ none ∙ ap (option_map (changed change j)) (sym none)
 
 slot-told : {B : Type 0} (rows : B → List Row) (told : B → Told) (change : Change) (k : ℕ) (watch : Option Watched) (before after : Option B)
-    → IfSome watch (Fits change) → IsShown rows watch before → IsToldRows rows told (option_map rows_in (option_map (changed change k) watch)) before after
-    → IsTold told (option_map (most_told change k) watch) before after
+    → IfSome watch (Fits change) → IfSome watch (λ watch. IsSomeAnd before (λ view. Shows (hits_in watch.games) (rows view))) → IsTold (ToldRows rows told) (option_map rows_in (option_map (changed change k) watch)) before after
+    → IsTold (λ most old new. ToldMore most (told old) (told new)) (option_map (most_told change k) watch) before after
 slot-told rows told change k None before after fits shown h = h
 slot-told rows told change k (Some watch) None after fits shown h = absurd shown
 slot-told rows told change k (Some watch) (Some old) None fits shown h = absurd h
 slot-told rows told change k (Some watch) (Some old) (Some new) fits shown h =
-    record { same = h.0; few = omega (arith, h.1 (hits_in watch.games) shown, few-told change k watch fits) }
+    record { same = h.same; few = omega (arith, h.few (hits_in watch.games) shown, few-told change k watch fits) }
 
 pub brought-told : {B : Type 0} (rows : B → List Row) (told : B → Told) (change : Change) (inside slots : Slotted) (k first : ℕ) (after : List (Option Watched))
     (views views_after : List (Option B)) → inside ≡ slots → EachWatch (Fits change) slots → AreShown rows slots views → length inside.watches ≤ k
@@ -70,19 +70,19 @@ brought-told {B} rows told change inside slots k first after views views_after s
     subst (λ (s : Slotted). AreTold told s (most_told change) views views_after) same (record {
       views = λ j.
           let watch = in_slot inside.watches j in
-          let own : IsToldRows rows told (option_map rows_in (in_slot after j)) (in_slot views (inside.first + j)) (in_slot views_after (inside.first + j))
-          = subst (λ (n : ℕ). IsToldRows rows told (option_map rows_in (in_slot after j)) (in_slot views (n + j)) (in_slot views_after (n + j))) is (tells.slots j) in
+          let own : IsTold (ToldRows rows told) (option_map rows_in (in_slot after j)) (in_slot views (inside.first + j)) (in_slot views_after (inside.first + j))
+          = subst (λ (n : ℕ). IsTold (ToldRows rows told) (option_map rows_in (in_slot after j)) (in_slot views (n + j)) (in_slot views_after (n + j))) is (tells.slots j) in
           slot-told rows told change j watch (in_slot views (inside.first + j)) (in_slot views_after (inside.first + j))
           (subst (λ (s : Slotted). EachWatch (Fits change) s) (sym same) fits j) (subst (λ (s : Slotted). AreShown rows s views) (sym same) shown j)
-          (subst (λ (w : Option Watched). IsToldRows rows told (option_map rows_in w) (in_slot views (inside.first + j)) (in_slot views_after (inside.first + j)))
+          (subst (λ (w : Option Watched). IsTold (ToldRows rows told) (option_map rows_in w) (in_slot views (inside.first + j)) (in_slot views_after (inside.first + j)))
           (all-followed change k inside.watches after all followed j) own);
       others = λ i below. tells.others i (omega (arith, is, below));
       number = tells.number;
     })
 
 slot-shown : {B : Type 0} (rows : B → List Row) (told : B → Told) (change : Change) (k : ℕ) (watch : Option Watched) (before after : Option B)
-    → IsShown rows watch before → IsToldRows rows told (option_map rows_in (option_map (changed change k) watch)) before after
-    → IsShownIf rows (option_map (changed change k) watch) after → IsShown rows (option_map (changed change k) watch) after
+    → IfSome watch (λ watch. IsSomeAnd before (λ view. Shows (hits_in watch.games) (rows view))) → IsTold (ToldRows rows told) (option_map rows_in (option_map (changed change k) watch)) before after
+    → IfSome (option_map (changed change k) watch) (λ watch. IfSome after (λ view. Shows (hits_in watch.games) (rows view))) → IfSome (option_map (changed change k) watch) (λ watch. IsSomeAnd after (λ view. Shows (hits_in watch.games) (rows view)))
 slot-shown rows told change k None before after was tells shown = shown
 slot-shown rows told change k (Some watch) None after was tells shown = absurd was
 slot-shown rows told change k (Some watch) (Some old) None was tells shown = absurd tells
@@ -94,21 +94,21 @@ pub brought-shown : {B : Type 0} (rows : B → List Row) (told : B → Told) (ch
     → AreShown rows (record inside { watches = after }) views_after
 brought-shown {B} rows told change inside slots k first after views views_after same shown all is followed below j =
     let watch = in_slot inside.watches j in
-    let old : IsShown rows watch (in_slot views (inside.first + j)) = subst (λ (s : Slotted). AreShown rows s views) (sym same) shown j in
+    let old : IfSome watch (λ watch. IsSomeAnd (in_slot views (inside.first + j)) (λ view. Shows (hits_in watch.games) (rows view))) = subst (λ (s : Slotted). AreShown rows s views) (sym same) shown j in
     let place : first + j ≡ inside.first + j = ap (λ (n : ℕ). n + j) is in
     let there : in_slot after j ≡ option_map (changed change j) watch = all-followed change k inside.watches after all followed j in
-    let tells : IsToldRows rows told (option_map rows_in (option_map (changed change j) watch)) (in_slot views (inside.first + j)) (in_slot views_after (inside.first + j))
-    = subst (λ (n : ℕ). IsToldRows rows told (option_map rows_in (option_map (changed change j) watch)) (in_slot views n) (in_slot views_after n)) place
-    (subst (λ (w : Option Watched). IsToldRows rows told (option_map rows_in w) (in_slot views (first + j)) (in_slot views_after (first + j))) there (below.all.slots j)) in
-    let shows : IsShownIf rows (option_map (changed change j) watch) (in_slot views_after (inside.first + j))
-    = subst (λ (n : ℕ). IsShownIf rows (option_map (changed change j) watch) (in_slot views_after n)) place
-    (subst (λ (w : Option Watched). IsShownIf rows w (in_slot views_after (first + j))) there (by (nat_lt j (length after)) refl)) in
-    subst (λ (w : Option Watched). IsShown rows w (in_slot views_after (inside.first + j))) (sym there)
+    let tells : IsTold (ToldRows rows told) (option_map rows_in (option_map (changed change j) watch)) (in_slot views (inside.first + j)) (in_slot views_after (inside.first + j))
+    = subst (λ (n : ℕ). IsTold (ToldRows rows told) (option_map rows_in (option_map (changed change j) watch)) (in_slot views n) (in_slot views_after n)) place
+    (subst (λ (w : Option Watched). IsTold (ToldRows rows told) (option_map rows_in w) (in_slot views (first + j)) (in_slot views_after (first + j))) there (below.all.slots j)) in
+    let shows : IfSome (option_map (changed change j) watch) (λ watch. IfSome (in_slot views_after (inside.first + j)) (λ view. Shows (hits_in watch.games) (rows view)))
+    = subst (λ (n : ℕ). IfSome (option_map (changed change j) watch) (λ watch. IfSome (in_slot views_after n) (λ view. Shows (hits_in watch.games) (rows view)))) place
+    (subst (λ (w : Option Watched). IfSome w (λ watch. IfSome (in_slot views_after (first + j)) (λ view. Shows (hits_in watch.games) (rows view)))) there (by (nat_lt j (length after)) refl)) in
+    subst (λ (w : Option Watched). IfSome w (λ watch. IsSomeAnd (in_slot views_after (inside.first + j)) (λ view. Shows (hits_in watch.games) (rows view)))) (sym there)
     (slot-shown rows told change j watch (in_slot views (inside.first + j)) (in_slot views_after (inside.first + j)) old tells shows)
   where
-    by : (b : Bool) → nat_lt j (length after) ≡ b → IsShownIf rows (in_slot after j) (in_slot views_after (first + j))
+    by : (b : Bool) → nat_lt j (length after) ≡ b → IfSome (in_slot after j) (λ watch. IfSome (in_slot views_after (first + j)) (λ view. Shows (hits_in watch.games) (rows view)))
     by true e = below.shown j (ltb-true j (length after) e)
-    by false e = subst (λ (w : Option Watched). IsShownIf rows w (in_slot views_after (first + j))) (sym (get_or_past after j None (ltb-false j (length after) e))) tt
+    by false e = subst (λ (w : Option Watched). IfSome w (λ watch. IfSome (in_slot views_after (first + j)) (λ view. Shows (hits_in watch.games) (rows view)))) (sym (get_or_past after j None (ltb-false j (length after) e))) tt
 
 -- where a slot is watched, or is watched no more
 there-below : {B : Type 0} (views : List (Option B)) (place : ℕ) → IsSome (in_slot views place) → place < length views
@@ -122,30 +122,35 @@ there-below {B} views place held = by (nat_lt place (length views)) refl
     by true e = ltb-true place (length views) e
     by false e = absurd (no-view (in_slot views place) (get_or_past views place None (ltb-false place (length views) e)) held)
 
+-- the slot that is watched from now on
+pub watched-here : {B : Type 0} (rows : B → List Row) (first k n place : ℕ) (watches : List (Option Watched)) (watch : Option Watched) (view : Option B) (views : List (Option B))
+    → n ≡ k → n < length watches → place ≡ first + k → IsSome (in_slot views (first + k)) → IfSome watch (λ watch. IsSomeAnd view (λ view. Shows (hits_in watch.games) (rows view)))
+    → IfSome (in_slot (set watches n watch) k) (λ watch. IsSomeAnd (in_slot (set views place view) (first + k)) (λ view. Shows (hits_in watch.games) (rows view)))
+watched-here {B} rows first k n place watches watch view views same within at held own =
+    let below : place < length views = there-below views place (subst (λ (i : ℕ). IsSome (in_slot views i)) (sym at) held) in
+    subst (λ (w : Option Watched). IfSome w (λ watch. IsSomeAnd (in_slot (set views place view) (first + k)) (λ view. Shows (hits_in watch.games) (rows view))))
+    (sym (ap (λ (i : ℕ). in_slot (set watches n watch) i) (sym same) ∙ get_or-set_same watches n watch None within))
+    (subst (λ (v : Option B). IfSome watch (λ watch. IsSomeAnd v (λ view. Shows (hits_in watch.games) (rows view))))
+    (sym (ap (λ (i : ℕ). in_slot (set views place view) i) (sym at) ∙ get_or-set_same views place view None below)) own)
+
 pub watched-shown : {B : Type 0} (rows : B → List Row) (inside slots : Slotted) (k place : ℕ) (watch : Option Watched) (view : Option B) (views : List (Option B))
-    → inside ≡ slots → k < length inside.watches → IsSome (in_slot views (slots.first + k)) → place ≡ inside.first + k → IsShown rows watch view → AreShown rows slots views
+    → inside ≡ slots → k < length inside.watches → IsSome (in_slot views (slots.first + k)) → place ≡ inside.first + k → IfSome watch (λ watch. IsSomeAnd view (λ view. Shows (hits_in watch.games) (rows view))) → AreShown rows slots views
     → AreShown rows (record inside { watches = set inside.watches k watch }) (set views place view)
 watched-shown {B} rows inside slots k place watch view views same within held at own shown j = by (j == k) refl
   where
-    below : place < length views
-    below =
-        let first : inside.first ≡ slots.first = ap (λ (s : Slotted). s.first) same in
-        there-below views place (subst (λ (n : ℕ). IsSome (in_slot views n)) (omega (arith, first, at)) held)
-
-    others : IsShown rows (in_slot inside.watches j) (in_slot views (inside.first + j))
+    others : IfSome (in_slot inside.watches j) (λ watch. IsSomeAnd (in_slot views (inside.first + j)) (λ view. Shows (hits_in watch.games) (rows view)))
     others = subst (λ (s : Slotted). AreShown rows s views) (sym same) shown j
 
-    by : (b : Bool) → (j == k) ≡ b → IsShown rows (in_slot (set inside.watches k watch) j) (in_slot (set views place view) (inside.first + j))
+    by : (b : Bool) → (j == k) ≡ b → IfSome (in_slot (set inside.watches k watch) j) (λ watch. IsSomeAnd (in_slot (set views place view) (inside.first + j)) (λ view. Shows (hits_in watch.games) (rows view)))
     by true e =
-        let is : k ≡ j = sym (eqb-true j k e) in
-        subst (λ (n : ℕ). IsShown rows (in_slot (set inside.watches k watch) n) (in_slot (set views place view) (inside.first + n))) is
-        (subst (λ (w : Option Watched). IsShown rows w (in_slot (set views place view) (inside.first + k))) (sym (get_or-set_same inside.watches k watch None within))
-        (subst (λ (v : Option B). IsShown rows watch v)
-        (sym (ap (λ (n : ℕ). in_slot (set views place view) n) (sym at) ∙ get_or-set_same views place view None below)) own))
+        let is : j ≡ k = eqb-true j k e in
+        let first : slots.first ≡ inside.first = sym (ap (λ (s : Slotted). s.first) same) in
+        watched-here rows inside.first j k place inside.watches watch view views (sym is) within (at ∙ ap (λ (n : ℕ). inside.first + n) (sym is))
+        (subst (λ (n : ℕ). IsSome (in_slot views n)) (omega (arith, first, is)) held) own
     by false e =
         let apart = eqb-false j k e in
-        subst (λ (w : Option Watched). IsShown rows w (in_slot (set views place view) (inside.first + j))) (sym (get_or-set_other inside.watches k j watch None apart))
-        (subst (λ (v : Option B). IsShown rows (in_slot inside.watches j) v)
+        subst (λ (w : Option Watched). IfSome w (λ watch. IsSomeAnd (in_slot (set views place view) (inside.first + j)) (λ view. Shows (hits_in watch.games) (rows view)))) (sym (get_or-set_other inside.watches k j watch None apart))
+        (subst (λ (v : Option B). IfSome (in_slot inside.watches j) (λ watch. IsSomeAnd v (λ view. Shows (hits_in watch.games) (rows view))))
         (sym (get_or-set_other views place (inside.first + j) view None (λ is. apart (omega (arith, is, at))))) others)
 
 pub below-set : (count k : ℕ) (watches : List (Option Watched)) (watch : Option Watched) → k < count → AreBelow count watches → AreBelow count (set watches k watch)

@@ -1,13 +1,13 @@
 -- Some slots, one behind the other, of a list of them, and what is told to their views.
-use Rattle.std.proofs.Common.{◌≡◌, ℕ, ◌+◌, ◌-◌, ◌<◌, ◌≤◌, nat_le, nat_lt, Bool, true, false, List, ◌++◌, Option, Some, None, length, option_map, take, drop, refl, sym, ap, subst, ◌∙◌, arith}
+use Rattle.std.proofs.Common.{◌≡◌, ℕ, ◌+◌, ◌-◌, ◌<◌, ◌≤◌, nat_le, nat_lt, Bool, true, false, List, ◌++◌, Option, Some, None, length, option_map, take, drop, refl, sym, ap, subst, ◌∙◌, arith, IfSome}
 use Rattle.std.proofs.lemmas.Bool.{and_parts, le-leb, leb-true, ltb-false, ltb-true}
 use Rattle.std.proofs.lemmas.List.{get_or-append_right, get_or-drop, get_or-take, get_or_append_left, get_or_past, length-drop, length-take-le}
 use Rattle.std.specs.Prelude.{if◌then◌else◌}
 use Rattle.tree_rows.specs.declared.row.Row.{Row}
-use Rattle.tree_live.specs.Watching.{Watched}
-use Rattle.tree_live.specs.Slots.{AreShownIf, AreToldRows, IsShownIf, IsToldRows, Slotted, in_slot, is_within, rows_in}
+use Rattle.tree_live.specs.Watching.{Watched, hits_in}
+use Rattle.tree_live.specs.Slots.{AreShownIf, AreToldRows, Slotted, in_slot, is_within, rows_in, IsTold}
 use Rattle.tree_live.specs.Showing.{ShownBelow, ToldEach}
-use Rattle.tree_live.specs.Views.{Told}
+use Rattle.tree_live.specs.Views.{Told, Shows, ToldRows}
 
 -- ---- a slot among them, or not
 
@@ -52,8 +52,8 @@ shown_within rows told start count first front part rest views views' slots at a
     let b = among start count k within in
     let here : in_slot slots.watches k ≡ in_slot part (k - start) = ap (λ (l : List (Option Watched)). in_slot l k) are ∙ in_place front part rest start k front_is b.from (omega (arith, b.below, part_is)) in
     let place : first + (k - start) ≡ slots.first + k = omega (arith, at, b.from) in
-    subst (λ (watch : Option Watched). IsShownIf rows watch (in_slot views' (slots.first + k))) (sym here)
-    (subst (λ (n : ℕ). IsShownIf rows (in_slot part (k - start)) (in_slot views' n)) place (shown.shown (k - start) (omega (arith, b.below, part_is))))
+    subst (λ (watch : Option Watched). IfSome watch (λ watch. IfSome (in_slot views' (slots.first + k)) (λ view. Shows (hits_in watch.games) (rows view)))) (sym here)
+    (subst (λ (n : ℕ). IfSome (in_slot part (k - start)) (λ watch. IfSome (in_slot views' n) (λ view. Shows (hits_in watch.games) (rows view)))) place (shown.shown (k - start) (omega (arith, b.below, part_is))))
 
 -- The rows of changed watches.
 changed_rows : (change : Watched → Watched) (watch : Option Watched) → option_map rows_in (option_map change watch) ≡ option_map (λ (w : Watched). rows_in (change w)) watch
@@ -72,20 +72,20 @@ told_within {B} rows told start count first a n all part views views' slots chan
   where
     -- The view behind so many of them.
     behind : (k : ℕ) (later : Option (List Row)) → start ≤ k → option_map rows_in (in_slot part (k - start)) ≡ later
-        → IsToldRows rows told later (in_slot views (slots.first + k)) (in_slot views' (slots.first + k))
+        → IsTold (ToldRows rows told) later (in_slot views (slots.first + k)) (in_slot views' (slots.first + k))
     behind k later from is =
         let place : first + (k - start) ≡ slots.first + k = omega (arith, at, from) in
-        subst (λ (o : Option (List Row)). IsToldRows rows told o (in_slot views (slots.first + k)) (in_slot views' (slots.first + k))) is
-        (subst (λ (i : ℕ). IsToldRows rows told (option_map rows_in (in_slot part (k - start))) (in_slot views i) (in_slot views' i)) place (tells.slots (k - start)))
+        subst (λ (o : Option (List Row)). IsTold (ToldRows rows told) o (in_slot views (slots.first + k)) (in_slot views' (slots.first + k))) is
+        (subst (λ (i : ℕ). IsTold (ToldRows rows told) (option_map rows_in (in_slot part (k - start))) (in_slot views i) (in_slot views' i)) place (tells.slots (k - start)))
 
-    outside : (k : ℕ) (from : Bool) → nat_lt k start ≡ from → is_within start count k ≡ false → IsToldRows rows told None (in_slot views (slots.first + k)) (in_slot views' (slots.first + k))
+    outside : (k : ℕ) (from : Bool) → nat_lt k start ≡ from → is_within start count k ≡ false → IsTold (ToldRows rows told) None (in_slot views (slots.first + k)) (in_slot views' (slots.first + k))
     outside k true before not = tells.others (slots.first + k) (omega (arith, at, ltb-true k start before))
     outside k false behind_it not =
         let from = ltb-false k start behind_it in
         behind k None from (ap (option_map rows_in) (get_or_past part (k - start) None (omega (arith, part_is, past_them start count k from not))))
 
     by : (k : ℕ) (within : Bool) → is_within start count k ≡ within
-        → IsToldRows rows told (if within then option_map (λ (w : Watched). rows_in (change w)) (in_slot slots.watches k) else None) (in_slot views (slots.first + k)) (in_slot views' (slots.first + k))
+        → IsTold (ToldRows rows told) (if within then option_map (λ (w : Watched). rows_in (change w)) (in_slot slots.watches k) else None) (in_slot views (slots.first + k)) (in_slot views' (slots.first + k))
     by k true within =
         let b = among start count k within in
         let same : in_slot (take n (drop a all)) (k - start) ≡ in_slot slots.watches k =

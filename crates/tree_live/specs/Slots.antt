@@ -1,13 +1,12 @@
 -- The slots of a list of views, some of which are watched (this project's own).
-use Rattle.std.specs.Prelude.{◌≡◌, ℕ, ◌+◌, ◌<◌, ◌≤◌, ◌&&◌, nat_le, nat_lt, if◌then◌else◌, Bool, true, false, List, Option, Some, None, length, option_map, slice_index_or, IfSome, IsSome}
+use Rattle.std.specs.Prelude.{◌≡◌, ℕ, ◌+◌, ◌<◌, ◌≤◌, ◌&&◌, nat_le, nat_lt, if◌then◌else◌, Bool, true, false, List, Option, Some, None, length, option_map, slice_index_or, IfSome, IsSome, IsSomeAnd}
 use Rattle.game_filter.specs.Renumbering.{renumbered}
 use Rattle.tree_rows.specs.declared.hit.GameHit.{GameHit}
 use Rattle.tree_rows.specs.declared.row.Row.{Row}
 use Rattle.tree_rows.specs.Rows.{rows_of}
 use Rattle.tree_live.specs.declared.change.Change.{Change}
 use Rattle.tree_live.specs.declared.change.Change.TheVariants.{Filter, Game, Numbers}
-use Rattle.tree_live.specs.Views.{Shows, Told, ToldMore}
-use Rattle.tree_live.specs.RowChanges.{rows_changed}
+use Rattle.tree_live.specs.Views.{Shows, Told, ToldMore, ToldRows}
 use Rattle.tree_live.specs.Watching.{Watched, hits_in, all_changes, staying, under, with_game}
 
 -- The slot k is the view with the number first + k, for each k below the count; if it is watched, its watch.
@@ -29,23 +28,13 @@ abbrev pub AreBelow : ℕ → List (Option Watched) → Type 0
 AreBelow count watches = (k : ℕ) → count ≤ k → in_slot watches k ≡ None
 
 -- A slot that is watched holds a view, which shows the rows of the hits that are in.
-abbrev pub IsShown : {B : Type 0} → (B → List Row) → Option Watched → Option B → Type 0
-IsShown rows None slot = Unit {0}
-IsShown rows (Some watch) None = ⊥
-IsShown rows (Some watch) (Some view) = Shows (hits_in watch.games) (rows view)
-
 abbrev pub AreShown : {B : Type 0} → (B → List Row) → Slotted → List (Option B) → Type 0
-AreShown rows slots views = (k : ℕ) → IsShown rows (in_slot slots.watches k) (in_slot views (slots.first + k))
+AreShown rows slots views = (k : ℕ) → IfSome (in_slot slots.watches k) (λ watch. IsSomeAnd (in_slot views (slots.first + k)) (λ view. Shows (hits_in watch.games) (rows view)))
 
--- A slot that is watched shows the rows of the hits that are in, if it holds a view.
-abbrev pub IsShownIf : {B : Type 0} → (B → List Row) → Option Watched → Option B → Type 0
-IsShownIf rows None slot = Unit {0}
-IsShownIf rows (Some watch) None = Unit {0}
-IsShownIf rows (Some watch) (Some view) = Shows (hits_in watch.games) (rows view)
-
--- So does each of some slots.
+-- Each of some slots shows them, if it is watched and holds a view.
 abbrev pub AreShownIf : {B : Type 0} → (B → List Row) → (ℕ → Bool) → Slotted → List (Option B) → Type 0
-AreShownIf rows among slots views = (k : ℕ) → among k ≡ true → IsShownIf rows (in_slot slots.watches k) (in_slot views (slots.first + k))
+AreShownIf rows among slots views =
+    (k : ℕ) → among k ≡ true → IfSome (in_slot slots.watches k) (λ watch. IfSome (in_slot views (slots.first + k)) (λ view. Shows (hits_in watch.games) (rows view)))
 
 -- A view stands in each slot that is watched.
 abbrev pub AreHeld : {B : Type 0} → Slotted → List (Option B) → Type 0
@@ -60,32 +49,22 @@ kept_hit (Some watch) i = (slice_index_or watch.games i (record { hit = None; is
 abbrev pub rows_in : Watched → List Row
 rows_in watch = rows_of (hits_in watch.games)
 
--- A slot that may be told so many changes holds its view, which was told no more; one that is told nothing is as before.
-abbrev pub IsTold : {B : Type 0} → (B → Told) → Option ℕ → Option B → Option B → Type 0
-IsTold told None before after = after ≡ before
-IsTold told (Some most) None after = ⊥
-IsTold told (Some most) (Some before) None = ⊥
-IsTold told (Some most) (Some before) (Some after) = ToldMore most (told before) (told after)
+-- A slot to which something is told holds its view, if it held one, and the view was told it in this way. One to which nothing is told is as before.
+abbrev pub IsTold : {T B : Type 0} → (T → B → B → Type 0) → Option T → Option B → Option B → Type 0
+IsTold told_it None before after = after ≡ before
+IsTold told_it (Some it) None after = after ≡ None
+IsTold told_it (Some it) (Some before) None = ⊥
+IsTold told_it (Some it) (Some before) (Some after) = told_it it before after
 
--- So is each slot, and every other view is as before.
+-- The view of each slot that is watched was told no more than so many changes, and every other view is as before.
 pub record AreTold {B : Type 0} (told : B → Told) (slots : Slotted) (most : ℕ → Watched → ℕ) (before after : List (Option B)) : Type 0 where
-  pub views : (k : ℕ) → IsTold told (option_map (most k) (in_slot slots.watches k)) (in_slot before (slots.first + k)) (in_slot after (slots.first + k))
+  pub views : (k : ℕ) → IsTold (λ most old new. ToldMore most (told old) (told new)) (option_map (most k) (in_slot slots.watches k)) (in_slot before (slots.first + k)) (in_slot after (slots.first + k))
   pub others : (i : ℕ) → i < slots.first → in_slot after i ≡ in_slot before i
   pub number : length after ≡ length before
 
--- A slot that is to show these rows holds its view, if it held one. The view was told no more changes than rows differ
--- from those of the hits that it showed. A slot that is to show nothing is as before.
-abbrev pub IsToldRows : {B : Type 0} → (B → List Row) → (B → Told) → Option (List Row) → Option B → Option B → Type 0
-IsToldRows rows told None before after = after ≡ before
-IsToldRows rows told (Some later) None after = after ≡ None
-IsToldRows rows told (Some later) (Some before) None = ⊥
-IsToldRows rows told (Some later) (Some before) (Some after) =
-    ((told after).who ≡ (told before).who)
-    × ((hits : List GameHit) → Shows hits (rows before) → (told after).changes ≤ (told before).changes + rows_changed (rows_of hits) later)
-
--- So is each of some slots, where its watch becomes another, and every other view is as before.
+-- The view of each of some slots that is watched was told the rows of what its watch became, and every other view is as before.
 pub record AreToldRows {B : Type 0} (rows : B → List Row) (told : B → Told) (among : ℕ → Bool) (change : Watched → Watched) (slots : Slotted) (before after : List (Option B)) : Type 0 where
-  pub views : (k : ℕ) → IsToldRows rows told (if among k then option_map (λ watch. rows_in (change watch)) (in_slot slots.watches k) else None) (in_slot before (slots.first + k)) (in_slot after (slots.first + k))
+  pub views : (k : ℕ) → IsTold (ToldRows rows told) (if among k then option_map (λ watch. rows_in (change watch)) (in_slot slots.watches k) else None) (in_slot before (slots.first + k)) (in_slot after (slots.first + k))
   pub others : (i : ℕ) → i < slots.first → in_slot after i ≡ in_slot before i
   pub number : length after ≡ length before
 

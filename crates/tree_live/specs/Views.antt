@@ -5,6 +5,7 @@ use Rattle.tree_rows.specs.declared.hit.GameHit.{GameHit}
 use Rattle.tree_rows.specs.declared.row.Row.{Row}
 use Rattle.tree_rows.specs.Keys.{same_key}
 use Rattle.tree_rows.specs.Rows.{row_at, rows_of}
+use Rattle.tree_live.specs.RowChanges.{rows_changed}
 
 -- The row of one key is set, or taken out if it is none, and every other key has the row that it had.
 pub record Sets (key : Option Move) (row : Option Row) (before after : List Row) : Type 0 where
@@ -24,6 +25,11 @@ pub record Told : Type 0 where
 pub record ToldMore (most : ℕ) (before after : Told) : Type 0 where
   pub same : after.who ≡ before.who
   pub few : after.changes ≤ before.changes + most
+
+-- It is the same view, and was told no more changes than rows differ between those of the hits that it showed and these.
+pub record ToldRows {B : Type 0} (rows : B → List Row) (told : B → Told) (later : List Row) (before after : B) : Type 0 where
+  pub same : (told after).who ≡ (told before).who
+  pub few : (hits : List GameHit) → Shows hits (rows before) → (told after).changes ≤ (told before).changes + rows_changed (rows_of hits) later
 
 -- A view in memory: its rows, how many changes it was told and how many rows it was to put, and which of these puts it refuses.
 pub record Table : Type 0 where

@@ -1,6 +1,8 @@
 //! Views that are told how their rows differ from those of their watches.
-ghost use Rattle.std.specs.Prelude.{◌≡◌, ℕ, ◌+◌, ◌<◌, ◌≤◌, length, option_map, OnOk};
-ghost use Rattle.tree_live.specs.Slots.{IsShownIf, IsToldRows, in_slot, rows_in};
+ghost use Rattle.std.specs.Prelude.{◌≡◌, ℕ, ◌+◌, ◌<◌, ◌≤◌, length, option_map, OnOk, IfSome};
+ghost use Rattle.tree_live.specs.Slots.{in_slot, rows_in, IsTold};
+ghost use Rattle.tree_live.specs.Views.{Shows, ToldRows};
+ghost use Rattle.tree_live.specs.Watching.{hits_in};
 ghost use Rattle.tree_live.specs.Showing.{ShownBelow, ToldEach, ToldIn};
 
 use crate::view::TreeView;
@@ -36,7 +38,7 @@ fn show_at(
     requires place { k < length watches.now }
     requires few { length watches.now ≤ 8 }
     requires first { first ≤ 16 }
-    ensures shown { OnOk result (IsShownIf (λ b. rows b) (in_slot watches.now k) (in_slot views.new (first + k))) }
+    ensures shown { OnOk result (IfSome (in_slot watches.now k) (λ watch. IfSome (in_slot views.new (first + k)) (λ view. Shows (hits_in watch.games) (rows view)))) }
     ensures told { ToldIn (λ b. rows b) (λ b. told b) first k watches.now views.old views.new }
 {
     let place = first + k;
@@ -52,8 +54,8 @@ fn show_slot(
     watch: &Option<Watch>,
     slot: &mut Option<Box<dyn TreeView>>,
 ) -> Result<(), AllocError>
-    ensures shown { OnOk result (IsShownIf (λ b. rows b) watch.now slot.new) }
-    ensures told { IsToldRows (λ b. rows b) (λ b. told b) (option_map rows_in watch.now) slot.old slot.new }
+    ensures shown { OnOk result (IfSome watch.now (λ watch. IfSome slot.new (λ view. Shows (hits_in watch.games) (rows view)))) }
+    ensures told { IsTold (ToldRows (λ b. rows b) (λ b. told b)) (option_map rows_in watch.now) slot.old slot.new }
 {
     match watch {
         None => Ok(()),

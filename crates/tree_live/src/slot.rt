@@ -1,7 +1,8 @@
 //! One slot of a list of views.
-ghost use Rattle.std.specs.Prelude.{◌≡◌, ◌+◌, ◌≤◌, Some, length, IfOk, IsSome};
+ghost use Rattle.std.specs.Prelude.{◌≡◌, ◌+◌, ◌≤◌, Some, length, IfOk, IsSome, IsSomeAnd, IfSome};
 ghost use Rattle.tree_live.specs.Watching.{all_out, hits_in, under};
-ghost use Rattle.tree_live.specs.Slots.{IsShown, IsTold};
+ghost use Rattle.tree_live.specs.Views.{Shows, ToldMore};
+ghost use Rattle.tree_live.specs.Slots.{IsTold};
 
 use crate::view::TreeView;
 use crate::watch::Watch;
@@ -22,8 +23,8 @@ pub(crate) fn attach(
     requires few { length hits.now ≤ 16777214 }
     requires holds { IsSome slot.old }
     ensures watched { IfOk result (λ watch. watch ≡ Some (record { board = board; games = under filter.now (all_out hits.now) })) }
-    ensures shown { IfOk result (λ watch. IsShown (λ b. rows b) watch slot.new) }
-    ensures told { IsTold (λ b. told b) (Some (1 + length (hits_in (under filter.now (all_out hits.now))))) slot.old slot.new }
+    ensures shown { IfOk result (λ watch. IfSome watch (λ watch. IsSomeAnd slot.new (λ view. Shows (hits_in watch.games) (rows view)))) }
+    ensures told { IsTold (λ most old new. ToldMore most (told old) (told new)) (Some (1 + length (hits_in (under filter.now (all_out hits.now))))) slot.old slot.new }
 {
     match slot {
         None => Ok(None),

@@ -37,11 +37,12 @@ impl Model for Slots {
 }
 
 impl Slots {
-    ghost use Rattle.std.specs.Prelude.{◌≡◌, ◌+◌, ◌<◌, ◌≤◌, ◌&&◌, ℕ, false, Some, None, nat_lt, if◌then◌else◌, is_some, length, option_copied, option_map, replicate, slice_set, IfSome, IsSome, OnOk, OnErr, MatchResult};
+    ghost use Rattle.std.specs.Prelude.{◌≡◌, ◌+◌, ◌<◌, ◌≤◌, ◌&&◌, ℕ, false, Some, None, nat_lt, if◌then◌else◌, is_some, length, option_copied, option_map, replicate, slice_set, IfSome, IsSome, IsSomeAnd, OnOk, OnErr, MatchResult};
     ghost use Rattle.cell_core.specs.Packed.{packed_of};
     ghost use Rattle.game_filter.specs.Renumbering.{renumbered};
     ghost use Rattle.tree_live.specs.Watching.{all_changes, all_out, hits_in, staying, under, with_game};
-    ghost use Rattle.tree_live.specs.Slots.{AreBelow, AreChanged, AreShown, AreShownIf, AreTold, AreToldRows, EachWatch, Fits, IsShown, IsTold, changed, in_slot, is_within, kept_hit, most_told};
+    ghost use Rattle.tree_live.specs.Views.{Shows, ToldMore};
+    ghost use Rattle.tree_live.specs.Slots.{AreBelow, AreChanged, AreShown, AreShownIf, AreTold, AreToldRows, EachWatch, Fits, IsTold, changed, in_slot, is_within, kept_hit, most_told};
 
     /// None of the slots is watched. There are `count` of them, and the last is below 8.
     pub fn new(first: u8, count: u8) -> Slots
@@ -113,9 +114,9 @@ impl Slots {
         requires few { length hits.now ≤ 16777214 }
         ensures watched { OnOk result (self.new ≡ record self.old { watches = slice_set self.old.watches k (Some (record { board = board; games = under filter.now (all_out hits.now) })) }) }
         ensures unchanged { OnErr result (self.new ≡ self.old) }
-        ensures here { OnOk result (IsShown (λ b. rows b) (in_slot self.new.watches k) (in_slot views.new (self.old.first + k))) }
+        ensures here { OnOk result (IfSome (in_slot self.new.watches k) (λ watch. IsSomeAnd (in_slot views.new (self.old.first + k)) (λ view. Shows (hits_in watch.games) (rows view)))) }
         ensures shown { AreShown (λ b. rows b) self.old views.old → OnOk result (AreShown (λ b. rows b) self.new views.new) }
-        ensures told { IsTold (λ b. told b) (Some (1 + length (hits_in (under filter.now (all_out hits.now))))) (in_slot views.old (self.old.first + k)) (in_slot views.new (self.old.first + k)) }
+        ensures told { IsTold (λ most old new. ToldMore most (told old) (told new)) (Some (1 + length (hits_in (under filter.now (all_out hits.now))))) (in_slot views.old (self.old.first + k)) (in_slot views.new (self.old.first + k)) }
         ensures others { (i : ℕ) → (i ≡ self.old.first + k → ⊥) → in_slot views.new i ≡ in_slot views.old i }
         ensures number { length views.new ≡ length views.old }
     {

@@ -9,7 +9,7 @@ use Rattle.shell_state.proofs.TableLaws.{in_mapped, in_tables, same_slots}
 use Rattle.shell_state.specs.Slots.{HitTable, Slot, exactly_on, hit_of_game, slot_at, table_in, table_of, tables_in, tables_of}
 use Rattle.shell_state.specs.Slots.Slot.{shows}
 use Rattle.shell_state.specs.State.{State}
-use Rattle.shell_state.specs.Meeting.{listed_hit, tree_hits}
+use Rattle.shell_state.specs.Meeting.{tree_hits}
 use Rattle.sig_index.specs.declared.pos_query.PosQuery.{PosQuery}
 use Rattle.tree_live.specs.Slots.{in_slot}
 use Rattle.tree_live.specs.Watching.{Watched, all_out, hits_in, under}
@@ -26,10 +26,6 @@ hits_of entries = map (λ (e : Entry). e.hit) entries
 
 -- ---- games under a filter
 
-listed : (hit : Option GameHit) → option_to_list hit ≡ listed_hit hit
-listed None = refl
-listed (Some hit) = refl
-
 -- The hits that are in of games with these hits are those of their tree.
 pub hits_are : (query : PosQuery) (plies : Plies) (entries : List Entry) (games : List Held) → hits_of entries ≡ map (hit_of_game query) games → length plies ≡ length entries
     → hits_in (under plies entries) ≡ tree_hits query plies games
@@ -45,7 +41,7 @@ hits_are query (ply ∷ plies) (e ∷ entries) (held ∷ games) is count =
     by : (ply : Option ℕ) → e.hit ≡ hit_of_game query held → hits_in (under plies entries) ≡ tree_hits query plies games
         → hits_in (under (ply ∷ plies) (e ∷ entries)) ≡ tree_hits query (ply ∷ plies) (held ∷ games)
     by None head rest = rest
-    by (Some p) head rest = ap₂ (λ (a b : List GameHit). a ++ b) (listed e.hit ∙ ap listed_hit head) rest
+    by (Some p) head rest = ap₂ (λ (a b : List GameHit). a ++ b) (ap option_to_list head) rest
 
 -- A filter leaves the hits.
 pub hits_kept : (plies : Plies) (entries : List Entry) → hits_of (under plies entries) ≡ hits_of entries

@@ -3,7 +3,7 @@ use Rattle.std.proofs.Common.{◌≡◌, ℕ, suc, ◌+◌, ◌<◌, List, [], �
 use Rattle.std.proofs.lemmas.List.Elements.{All-append, All-nil, All-push}
 use Rattle.std.proofs.lemmas.Option.{slice_get_within}
 use Rattle.std.specs.Option.{option_or}
-use Rattle.std.specs.Prelude.{slice_get}
+use Rattle.std.specs.Prelude.{slice_get, option_to_list}
 use Rattle.base_core.proofs.Lists.{get_some}
 use Rattle.base_core.specs.Base.{Base, Held}
 use Rattle.base_core.specs.Entries.{extent_of}
@@ -20,7 +20,7 @@ use Rattle.pos_search.specs.Matching.{first_if_aside, first_on_main, hit_of, mat
 use Rattle.pos_search.proofs.Words.{hit_aside}
 use Rattle.pos_search.proofs.MatchLemmas.{matched}
 use Rattle.shell_state.specs.Slots.{hit_of_game}
-use Rattle.shell_state.specs.Meeting.{hit_if_in, listed_hit, tree_hits}
+use Rattle.shell_state.specs.Meeting.{hit_if_in, tree_hits}
 use Rattle.sig_index.proofs.PrefixLemmas.{moves_at}
 use Rattle.sig_index.proofs.Ranges.{found_first}
 use Rattle.sig_index.proofs.RecordLemmas.{game_legal, game_sound}
@@ -89,16 +89,16 @@ tree_keys : (query : PosQuery) (plies : List (Option ℕ)) (games : List Held) �
 tree_keys query [] games exact sound = All-nil (λ (hit : GameHit). IsKey query.board query.side hit.next)
 tree_keys query (ply ∷ plies) [] exact sound = All-nil (λ (hit : GameHit). IsKey query.board query.side hit.next)
 tree_keys query (ply ∷ plies) (held ∷ games) exact sound =
-    All-append P (listed_hit (hit_if_in query ply held)) (tree_hits query plies games) (one ply) (tree_keys query plies games exact (λ i. sound (suc i)))
+    All-append P (option_to_list (hit_if_in query ply held)) (tree_hits query plies games) (one ply) (tree_keys query plies games exact (λ i. sound (suc i)))
   where
     P : GameHit → Type 0
     P hit = IsKey query.board query.side hit.next
 
-    listed : (hit : Option GameHit) → hit_of_game query held ≡ hit → All P (listed_hit hit)
+    listed : (hit : Option GameHit) → hit_of_game query held ≡ hit → All P (option_to_list hit)
     listed None is = All-nil P
     listed (Some hit) is = All-push P [] hit (All-nil P) (held_key query held hit exact (sound 0 held refl) is)
 
-    one : (ply : Option ℕ) → All P (listed_hit (hit_if_in query ply held))
+    one : (ply : Option ℕ) → All P (option_to_list (hit_if_in query ply held))
     one None = All-nil P
     one (Some p) = listed (hit_of_game query held) refl
 

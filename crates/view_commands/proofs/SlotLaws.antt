@@ -2,7 +2,7 @@
 use Rattle.std.proofs.Common.{◌≡◌, ℕ, zero, suc, ◌+◌, ◌<◌, ◌≤◌, ◌==◌, Bool, true, false, nat_lt, List, [], ◌∷◌, length, map, codes, Option, Some, None, option_map, refl, sym, subst, ap, ap₂, ◌∙◌, arith, Result, Ok, Err, inl, inr}
 use Rattle.std.proofs.lemmas.Bool.{and_parts, cases_lt, eqb-true, eqb-false, le-leb, lt-ltb, ltb-false, ltb-true}
 use Rattle.std.proofs.lemmas.List.{get_or_past, get_or-set_same, get_or-set_other}
-use Rattle.std.specs.Prelude.{IfSome, IsSome, OnOk, is_some, if◌then◌else◌, slice_set, ◌&&◌}
+use Rattle.std.specs.Prelude.{IfSome, IsSome, OnOk, is_some, if◌then◌else◌, slice_set, ◌&&◌, IsSomeAnd}
 use Rattle.base_core.specs.Represents.{Kept}
 use Rattle.base_files.specs.Seen.{Seen}
 use Rattle.cell_core.specs.Board.{Men}
@@ -18,13 +18,12 @@ use Rattle.shell_state.specs.Stands.{Holding, Stands, Tables}
 use Rattle.shell_state.specs.State.{State}
 use Rattle.sig_index.specs.declared.pos_query.PosQuery.{PosQuery}
 use Rattle.tree_live.specs.RowChanges.{rows_changed}
-use Rattle.tree_live.specs.Slots.{AreChanged, AreShownIf, AreToldRows, IsShown, IsShownIf, IsTold, IsToldRows, Slotted, in_slot, rows_in}
-use Rattle.tree_live.specs.Views.{Shows, Told}
+use Rattle.tree_live.specs.Slots.{AreChanged, AreShownIf, AreToldRows, IsTold, Slotted, in_slot, rows_in}
+use Rattle.tree_live.specs.Views.{Shows, Told, ToldMore, ToldRows}
 use Rattle.tree_live.specs.Watching.{Watched, all_out, hits_in, under}
 use Rattle.tree_rows.specs.Rows.{rows_of}
 use Rattle.tree_rows.specs.declared.hit.GameHit.{GameHit}
 use Rattle.tree_rows.specs.declared.row.Row.{Row}
-use Rattle.view_commands.specs.Reading.{ShowsIn}
 use Rattle.view_commands.specs.Views.{AreLeft, AreRight, AreToldAtMost, IsRight, IsToldAtMost, changes_of, is_own, is_shown, left, no_view_line, own_slot, shown_hits, showing, unwatch_line, unwatch_work, view_text, watch_line, watch_work, with_slot}
 use Rattle.view_commands.specs.declared.window.Window.{Window}
 use Rattle.view_commands.proofs.ToldLaws.{told_same}
@@ -127,6 +126,7 @@ slot_stands kept index watches watches' filter saved seen s k slot st tables = r
   carried = st.carried;
   tables = ap₂ (λ (x : Option Index) (hits : List (Option HitTable)). record { index = x; hits = hits }) (ap (λ (t : Tables). t.index) st.tables) tables;
   seat = st.seat;
+  fresh = st.fresh;
 }
 
 pub tables_of_slots : (kept : Kept) (index : Option Index) (watches : List (Option Watched)) (filter : Plies) (saved : List SavedFilter) (seen : Seen) (s : State)
@@ -141,10 +141,6 @@ right_with rows s slots empty view right = right
 right_with rows s slots idle view right = right
 right_with rows s slots (shows board) None right = right
 right_with rows s slots (shows board) (Some view) right = right
-
--- So it is beside the same state.
-pub right_behind : {B : Type 0} (rows : B → List Row) (w : Window) (s s' : State) (views : List (Option B)) → s ≡ s' → AreRight rows w s' views → AreRight rows w s views
-right_behind rows w s s' views same right = subst (λ (t : State). AreRight rows w t views) (sym same) right
 
 -- Views of which one is another are right beside the state with another slot.
 pub right_beside : {B : Type 0} (rows : B → List Row) (w : Window) (s : State) (k : ℕ) (slot : Slot) (views views' : List (Option B)) → AreRight rows w s views
@@ -168,7 +164,7 @@ right_beside rows w s k slot views views' right here own others j mine = right_w
 
 shown_right : {B : Type 0} (rows : B → List Row) (told : B → Told) (plies : Plies) (earlier s : State) (slot : Slot) (watch : Option Watched) (before after : Option B)
     → IsWatchOf s slot watch → plies ≡ s.seat.filter → IfSome watch (λ (w : Watched). length plies ≡ length w.games) → IsRight rows earlier slot before
-    → IsToldRows rows told (option_map (λ (w : Watched). rows_in (filtered plies w)) watch) before after → IsShownIf rows (option_map (filtered plies) watch) after → IsRight rows s slot after
+    → IsTold (ToldRows rows told) (option_map (λ (w : Watched). rows_in (filtered plies w)) watch) before after → IfSome (option_map (filtered plies) watch) (λ watch. IfSome after (λ view. Shows (hits_in watch.games) (rows view))) → IsRight rows s slot after
 shown_right rows told plies earlier s empty None before after is same fits right tells shown = tells ∙ right
 shown_right rows told plies earlier s empty (Some watch) before after is same fits right tells shown = absurd (cc)
 shown_right rows told plies earlier s idle None before after is same fits right tells shown = subst IsSome (sym tells) right
@@ -181,7 +177,7 @@ shown_right rows told plies earlier s (shows board) (Some watch) (Some before) (
 
 shown_told : {B : Type 0} (rows : B → List Row) (told : B → Told) (plies : Plies) (earlier s : State) (slot : Slot) (watch : Option Watched) (before after : Option B)
     → IsWatchOf s slot watch → plies ≡ s.seat.filter → IfSome watch (λ (w : Watched). length plies ≡ length w.games) → IsRight rows earlier slot before
-    → IsToldRows rows told (option_map (λ (w : Watched). rows_in (filtered plies w)) watch) before after → IsToldAtMost told (changes_of earlier s slot) before after
+    → IsTold (ToldRows rows told) (option_map (λ (w : Watched). rows_in (filtered plies w)) watch) before after → IsToldAtMost told (changes_of earlier s slot) before after
 shown_told rows told plies earlier s empty None before after is same fits right tells = told_same told 0 before after tells
 shown_told rows told plies earlier s empty (Some watch) before after is same fits right tells = absurd (cc)
 shown_told rows told plies earlier s idle None before after is same fits right tells = told_same told 0 before after tells
@@ -191,21 +187,21 @@ shown_told rows told plies earlier s (shows board) (Some watch) None after is sa
 shown_told rows told plies earlier s (shows board) (Some watch) (Some before) None is same fits right tells = absurd tells
 shown_told rows told plies earlier s (shows board) (Some watch) (Some before) (Some after) is same fits right tells =
     record {
-      same = tells.0;
+      same = tells.same;
       few = subst (λ (hits : List GameHit). (told after).changes ≤ (told before).changes + rows_changed (rows_of (shown_hits earlier board)) (rows_of hits))
-          (watch_hits s board plies watch is same fits) (tells.1 (shown_hits earlier board) right);
+          (watch_hits s board plies watch is same fits) (tells.few (shown_hits earlier board) right);
     }
 
 -- Slots, the first of which is the first view, and what was told to the views of a user's own.
 module _ {B : Type 0} (rows : B → List Row) (told : B → Told) (w : Window) (plies : Plies) (slots : Slotted) (views views' : List (Option B)) (first : slots.first ≡ 0)
     (tells : AreToldRows rows told (is_own w) (filtered plies) slots views views') where
   tells_at : (k : ℕ) (own : Bool) → is_own w k ≡ own
-      → IsToldRows rows told (if own then option_map (λ (x : Watched). rows_in (filtered plies x)) (in_slot slots.watches k) else None) (in_slot views k) (in_slot views' k)
+      → IsTold (ToldRows rows told) (if own then option_map (λ (x : Watched). rows_in (filtered plies x)) (in_slot slots.watches k) else None) (in_slot views k) (in_slot views' k)
   tells_at k own is =
       let at : slots.first + k ≡ k = omega (arith, first) in
-      let P : Bool → Type 0 = λ b. IsToldRows rows told (if b then option_map (λ (x : Watched). rows_in (filtered plies x)) (in_slot slots.watches k) else None) (in_slot views k) (in_slot views' k) in
+      let P : Bool → Type 0 = λ b. IsTold (ToldRows rows told) (if b then option_map (λ (x : Watched). rows_in (filtered plies x)) (in_slot slots.watches k) else None) (in_slot views k) (in_slot views' k) in
       subst P is
-      (subst (λ (n : ℕ). IsToldRows rows told (if is_own w k then option_map (λ (x : Watched). rows_in (filtered plies x)) (in_slot slots.watches k) else None) (in_slot views n) (in_slot views' n)) at (tells.views k))
+      (subst (λ (n : ℕ). IsTold (ToldRows rows told) (if is_own w k then option_map (λ (x : Watched). rows_in (filtered plies x)) (in_slot slots.watches k) else None) (in_slot views n) (in_slot views' n)) at (tells.views k))
 
   pub views_right : (s : State) (slots' : Slotted) (earlier : State) → slots'.first ≡ 0 → ((k : ℕ) → IsWatchOf s (slot_at s.slots k) (in_slot slots.watches k)) → plies ≡ s.seat.filter
       → ((k : ℕ) → IfSome (in_slot slots.watches k) (λ (x : Watched). length plies ≡ length x.games)) → s.slots ≡ earlier.slots → AreRight rows w earlier views
@@ -216,7 +212,7 @@ module _ {B : Type 0} (rows : B → List Row) (told : B → Told) (w : Window) (
       let here : in_slot slots'.watches k ≡ option_map (filtered plies) (in_slot slots.watches k) = subst P own (changed k) in
       shown_right rows told plies earlier s (slot_at s.slots k) (in_slot slots.watches k) (in_slot views k) (in_slot views' k) (is k) same (fits k)
       (subst (λ (l : List Slot). IsRight rows earlier (slot_at l k) (in_slot views k)) (sym one) (right k own)) (tells_at k true own)
-      (subst (λ (x : Option Watched). IsShownIf rows x (in_slot views' k)) here (subst (λ (n : ℕ). IsShownIf rows (in_slot slots'.watches k) (in_slot views' n)) at (shown k own)))
+      (subst (λ (x : Option Watched). IfSome x (λ watch. IfSome (in_slot views' k) (λ view. Shows (hits_in watch.games) (rows view)))) here (subst (λ (n : ℕ). IfSome (in_slot slots'.watches k) (λ watch. IfSome (in_slot views' n) (λ view. Shows (hits_in watch.games) (rows view)))) at (shown k own)))
 
   pub views_told : (s earlier : State) → ((k : ℕ) → IsWatchOf s (slot_at s.slots k) (in_slot slots.watches k)) → plies ≡ s.seat.filter
       → ((k : ℕ) → IfSome (in_slot slots.watches k) (λ (x : Watched). length plies ≡ length x.games)) → s.slots ≡ earlier.slots → AreRight rows w earlier views
@@ -236,7 +232,7 @@ module _ {B : Type 0} (rows : B → List Row) (told : B → Told) (w : Window) (
   views_left s is k not = of_own (is_own w k) refl not
     where
       by : (slot : Slot) (watch : Option Watched) → is_shown slot ≡ false → IsWatchOf s slot watch
-          → IsToldRows rows told (option_map (λ (x : Watched). rows_in (filtered plies x)) watch) (in_slot views k) (in_slot views' k) → in_slot views' k ≡ in_slot views k
+          → IsTold (ToldRows rows told) (option_map (λ (x : Watched). rows_in (filtered plies x)) watch) (in_slot views k) (in_slot views' k) → in_slot views' k ≡ in_slot views k
       by slot None not is tells = tells
       by empty (Some watch) not is tells = absurd (cc)
       by idle (Some watch) not is tells = absurd (cc)
@@ -346,11 +342,11 @@ view_none s number empty is = refl
 view_none s number idle is = refl
 view_none s number (shows board) is = absurd (cc)
 
-view_shows : {B : Type 0} (rows : B → List Row) (s : State) (board : Packed) (view : Option B) → IsRight rows s (shows board) view → ShowsIn rows (shown_hits s board) view
+view_shows : {B : Type 0} (rows : B → List Row) (s : State) (board : Packed) (view : Option B) → IsRight rows s (shows board) view → IsSomeAnd view (λ view. Shows (shown_hits s board) (rows view))
 view_shows rows s board None right = right
 view_shows rows s board (Some view) right = right
 
-pub right_shown : {B : Type 0} (rows : B → List Row) (s : State) (board : Packed) (slot : Slot) (view : Option B) → IsRight rows s slot view → slot ≡ shows board → ShowsIn rows (shown_hits s board) view
+pub right_shown : {B : Type 0} (rows : B → List Row) (s : State) (board : Packed) (slot : Slot) (view : Option B) → IsRight rows s slot view → slot ≡ shows board → IsSomeAnd view (λ view. Shows (shown_hits s board) (rows view))
 right_shown rows s board slot view right is = view_shows rows s board view (subst (λ (x : Slot). IsRight rows s x view) is right)
 
 -- ---- `watch`
@@ -424,26 +420,26 @@ pub watch_is : (w : Window) (s : State) (number k : ℕ) (men : Men) (side : Col
 watch_is w s number k men side of eight =
     ap (λ (x : Slot). with_slot w s number (showing (packed_of men side) x)) (own_is w s number k of eight) ∙ with_is w s number k (showing (packed_of men side) (slot_at s.slots k)) of eight
 
-new_right : {B : Type 0} (rows : B → List Row) (s : State) (board : Packed) (watch : Watched) (view : Option B) → hits_in watch.games ≡ shown_hits s board → IsShown rows (Some watch) view
+new_right : {B : Type 0} (rows : B → List Row) (s : State) (board : Packed) (watch : Watched) (view : Option B) → hits_in watch.games ≡ shown_hits s board → IsSomeAnd view (λ view. Shows (hits_in watch.games) (rows view))
     → IsRight rows s (shows board) view
 new_right rows s board watch None same shown = shown
 new_right rows s board watch (Some view) same shown = subst (λ (hits : List GameHit). Shows hits (rows view)) same shown
 
 pub watch_right : {B : Type 0} (rows : B → List Row) (w : Window) (s : State) (k at : ℕ) (board : Packed) (slot : Slot) (watch : Watched) (watches watches' : List (Option Watched)) (views views' : List (Option B))
     → AreRight rows w s views → slot ≡ shows board → k < length s.slots → k < length watches → at ≡ k → hits_in watch.games ≡ shown_hits s board
-    → watches' ≡ slice_set watches k (Some watch) → IsShown rows (in_slot watches' k) (in_slot views' at) → ((i : ℕ) → (i ≡ at → ⊥) → in_slot views' i ≡ in_slot views i)
+    → watches' ≡ slice_set watches k (Some watch) → IfSome (in_slot watches' k) (λ watch. IsSomeAnd (in_slot views' at) (λ view. Shows (hits_in watch.games) (rows view))) → ((i : ℕ) → (i ≡ at → ⊥) → in_slot views' i ≡ in_slot views i)
     → AreRight rows w (slotted s k slot) views'
 watch_right rows w s k at board slot watch watches watches' views views' right is within below same hits new here others =
-    let own : IsShown rows (Some watch) (in_slot views' at) = subst (λ (x : Option Watched). IsShown rows x (in_slot views' at))
+    let own : IsSomeAnd (in_slot views' at) (λ view. Shows (hits_in watch.games) (rows view)) = subst (λ (x : Option Watched). IfSome x (λ watch. IsSomeAnd (in_slot views' at) (λ view. Shows (hits_in watch.games) (rows view))))
     (ap (λ (l : List (Option Watched)). in_slot l k) new ∙ get_or-set_same watches k (Some watch) None below) here in
     right_beside rows w s k slot views views' right
     (get_or-set_same s.slots k slot empty within)
     (subst (λ (x : Slot). IsRight rows s x (in_slot views' k)) (sym is)
-    (new_right rows s board watch (in_slot views' k) hits (subst (λ (n : ℕ). IsShown rows (Some watch) (in_slot views' n)) same own)))
+    (new_right rows s board watch (in_slot views' k) hits (subst (λ (n : ℕ). IsSomeAnd (in_slot views' n) (λ view. Shows (hits_in watch.games) (rows view))) same own)))
     (λ i other. others i (λ e. other (e ∙ same)))
 
-new_told : {B : Type 0} (told : B → Told) (most : ℕ) (before after : Option B) → IsTold told (Some most) before after → IsToldAtMost told most before after
-new_told told most None after tells = absurd tells
+new_told : {B : Type 0} (told : B → Told) (most : ℕ) (before after : Option B) → IsTold (λ most old new. ToldMore most (told old) (told new)) (Some most) before after → IsToldAtMost told most before after
+new_told told most None after tells = tells
 new_told told most (Some before) None tells = absurd tells
 new_told told most (Some before) (Some after) tells = tells
 
@@ -458,7 +454,7 @@ names_other w number i less is =
     eqb-false (w.first + number) i not
 
 pub watch_told : {B : Type 0} (told : B → Told) (w : Window) (number at : ℕ) (hits shown : List GameHit) (views views' : List (Option B)) → number < w.count → at ≡ w.first + number → hits ≡ shown
-    → IsTold told (Some (1 + length hits)) (in_slot views at) (in_slot views' at) → ((i : ℕ) → (i ≡ at → ⊥) → in_slot views' i ≡ in_slot views i)
+    → IsTold (λ most old new. ToldMore most (told old) (told new)) (Some (1 + length hits)) (in_slot views at) (in_slot views' at) → ((i : ℕ) → (i ≡ at → ⊥) → in_slot views' i ≡ in_slot views i)
     → AreToldAtMost told (λ (j : ℕ). if nat_lt number w.count && (w.first + number == j) then 1 + length shown else 0) views views'
 watch_told told w number at hits shown views views' less same are tells others j = by (nat_lt number w.count && (w.first + number == j)) refl
   where

@@ -1,5 +1,5 @@
 //! `view K` and `unwatch K`.
-ghost use Rattle.std.specs.Prelude.{◌≡◌, ◌+◌, ◌≤◌, ◌<◌, ◌&&◌, List, All, IfOk, OnOk, length};
+ghost use Rattle.std.specs.Prelude.{◌≡◌, ◌+◌, ◌≤◌, ◌<◌, ◌&&◌, List, All, IfOk, OnOk, length, IsSomeAnd};
 ghost use Rattle.base_files.specs.Seen.{Seen};
 ghost use Rattle.cell_core.specs.Packed.{men_of};
 ghost use Rattle.shell_state.specs.Slots.{slot_at};
@@ -11,7 +11,6 @@ ghost use Rattle.tree_rows.specs.MoveText.{IsKey};
 ghost use Rattle.tree_rows.specs.Rows.{KeysDiffer, rows_of};
 ghost use Rattle.tree_rows.specs.TreeText.{tree_text};
 ghost use Rattle.tree_rows.specs.declared.hit.GameHit.{GameHit};
-ghost use Rattle.view_commands.specs.Reading.{ShowsIn};
 ghost use Rattle.view_commands.specs.Views.{AreLeft, AreRight, AreToldAtMost, is_own, is_shown, unwatch_work, view_work};
 
 use crate::window::Window;
@@ -85,7 +84,7 @@ fn text_in(
     k: u8,
     packed: &PackedBoard,
 ) -> Result<Vec<u8>, AllocError>
-    ensures text { (hits : List GameHit) → All (λ hit. IsKey (men_of packed.now.cells) packed.now.side hit.next) hits → ShowsIn (λ b. rows b) hits (in_slot views.now k) → IfOk result (λ text. text.items ≡ tree_text (men_of packed.now.cells) packed.now.side (rows_of hits)) }
+    ensures text { (hits : List GameHit) → All (λ hit. IsKey (men_of packed.now.cells) packed.now.side hit.next) hits → IsSomeAnd (in_slot views.now k) (λ view. Shows hits (rows view)) → IfOk result (λ text. text.items ≡ tree_text (men_of packed.now.cells) packed.now.side (rows_of hits)) }
 {
     let place = usize::from(k);
     if place >= views.len() {

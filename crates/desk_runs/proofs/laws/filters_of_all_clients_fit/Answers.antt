@@ -5,4 +5,4 @@ pub returns-clause-line : goal.returns-clause-line
 returns-clause-line c = λ desk t has. line_fits desk t has
 
 pub returns-clause-script : goal.returns-clause-script
-returns-clause-script c = λ tagged created slots base done. script_fits tagged created slots base done
+returns-clause-script c = λ tagged created fresh slots base done. script_fits tagged created fresh slots base done

@@ -1,4 +1,4 @@
-use Rattle.std.proofs.Common.{rules, ◌≡◌, ◌<◌, ◌-◌, ◌++◌, sym, subst, ◌∙◌, ap, refl, arith, List, ℕ, [], length, map, take, get_or}
+use Rattle.std.proofs.Common.{rules, ◌≡◌, ◌<◌, ◌-◌, ◌++◌, sym, subst, ◌∙◌, ap, refl, arith, List, ℕ, [], length, take, get_or}
 use Rattle.std.proofs.lemmas.List.{append-nil, get_or_default, get_or-map, length-map, length-set, take_all}
 use Rattle.pos_index.specs.declared.spot.Spot.{Spot}
 use Rattle.pos_index.specs.Keeping.{AreListed, board_of, spot_in, with_row}

@@ -1,4 +1,4 @@
-use Rattle.std.proofs.Common.{rules, ◌≡◌, ◌<◌, ◌++◌, subst, sym, ap, ◌∙◌, refl, arith, List, ℕ, [], get_or, length, map}
+use Rattle.std.proofs.Common.{rules, ◌≡◌, ◌<◌, ◌++◌, subst, sym, ap, ◌∙◌, refl, arith, List, ℕ, [], get_or, length}
 use Rattle.std.proofs.lemmas.List.{drop_all, get_or_default, get_or-map, length-map, length-set}
 use Rattle.pos_index.specs.declared.spot.Spot.{Spot}
 use Rattle.pos_index.specs.Keeping.{AreListed, board_of, spot_in, times, with_row}

@@ -43,8 +43,9 @@ returns-in-Ok-new-clause-opens g c =
     let index = ap (λ (seen : Seen). seen.index) c.open_base-opened.ensures.measured ∙ ap (λ (seen : Seen). seen.index) c.in_default.ensures.chosen in
     let names = ap (λ (seen : Seen). seen.names) c.open_base-opened.ensures.measured ∙ ap (λ (seen : Seen). seen.names) c.in_default.ensures.chosen in
     let games = ap (λ (seen : Seen). seen.games) c.open_base-opened.ensures.measured ∙ ap (λ (seen : Seen). seen.games) c.in_default.ensures.chosen in
+    let fresh = ap (λ (seen : Seen). seen.fresh) c.open_base-opened.ensures.measured ∙ ap (λ (seen : Seen). seen.fresh) c.in_default.ensures.chosen in
     opening c.args.wanted.now.create c.args.wanted.now.strict c.args.wanted.now.desk (g.F.Files.seen c.args.files.now) _ c.in-Ok-opened.opened.0 c.in-Ok-new.desk c.in-Ok-opened.opened.1
-    (subst P c.in_default.ensures.chosen c.in-Ok-opened.ensures.opens) index names games
+    (subst P c.in_default.ensures.chosen c.in-Ok-opened.ensures.opens) index names games fresh
     (subst (λ (desk : Bool). Starts c.in-Ok-opened.opened.0 desk c.in-Ok-new.desk) (ap (λ (clients : Clients). clients.tagged) c.new.ensures.new) c.in-Ok-new.ensures.stands)
 
 pub returns-in-Ok-new-clause-sound : goal.returns-in-Ok-new-clause-sound

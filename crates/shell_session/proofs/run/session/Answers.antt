@@ -18,7 +18,7 @@ returns-in-Err-write_opening-clause-answers g c = λ index names games script i 
     let words : List (List ℕ) = map string_bytes c.args.words.now in
     let wanted : Wanted (List ℕ) = record { name = c.in-Some.wanted.name.now; create = c.in-Some.wanted.create; strict = c.in-Some.wanted.strict; desk = c.in-Some.wanted.desk } in
     let input : Inlet = record { left = g.S.Source.left c.args.input.now; budget = g.S.Source.budget c.args.input.now; faults = g.S.Source.faults c.args.input.now } in
-    let P : Status → Type 0 = λ status. Answers (given words index names games script (meanings (λ b. (goal.TreeView-dyn g (b.vtable, b.value)).rows b.value) (λ b. (goal.TreeView-dyn g (b.vtable, b.value)).told b.value) c.args.views.now.items)) (g.K.Sink.taken c.args.out.now) (g.K.Sink.taken c.write_opening.new.out) input input (around (g.F.Files.seen c.open.new.files) (meanings (λ b. (goal.TreeView-dyn g (b.vtable, b.value)).rows b.value) (λ b. (goal.TreeView-dyn g (b.vtable, b.value)).told b.value) c.args.views.now.items) none_told (meanings (λ b. (goal.TreeView-dyn g (b.vtable, b.value)).rows b.value) (λ b. (goal.TreeView-dyn g (b.vtable, b.value)).told b.value) c.args.views.now.items)) status in
+    let P : Status → Type 0 = λ status. Answers (given words index names games (g.F.Files.seen c.args.files.now).fresh script (meanings (λ b. (goal.TreeView-dyn g (b.vtable, b.value)).rows b.value) (λ b. (goal.TreeView-dyn g (b.vtable, b.value)).told b.value) c.args.views.now.items)) (g.K.Sink.taken c.args.out.now) (g.K.Sink.taken c.write_opening.new.out) input input (around (g.F.Files.seen c.open.new.files) (meanings (λ b. (goal.TreeView-dyn g (b.vtable, b.value)).rows b.value) (λ b. (goal.TreeView-dyn g (b.vtable, b.value)).told b.value) c.args.views.now.items) none_told (meanings (λ b. (goal.TreeView-dyn g (b.vtable, b.value)).rows b.value) (λ b. (goal.TreeView-dyn g (b.vtable, b.value)).told b.value) c.args.views.now.items)) status in
     subst P (sym c.from.ensures)
     (line_session words index names games script (meanings (λ b. (goal.TreeView-dyn g (b.vtable, b.value)).rows b.value) (λ b. (goal.TreeView-dyn g (b.vtable, b.value)).told b.value) c.args.views.now.items) (g.F.Files.seen c.args.files.now) (g.F.Files.seen c.open.new.files) wanted c.in-Ok.opened.0 c.in-Ok.opened.1 c.games.result _ _ input c.in-Err-write_opening.stop _ _
     (sym c.in-Some.ensures.read) c.in-Ok.ensures.opens c.games.ensures.games c.in-Err-write_opening.ensures.halted c.open.ensures.contents c.in-Err-write_opening.ensures.causes.why i n told)
@@ -28,9 +28,9 @@ returns-in-Err-write_opening-clause-due g c = λ index names games script i n to
     let words : List (List ℕ) = map string_bytes c.args.words.now in
     let wanted : Wanted (List ℕ) = record { name = c.in-Some.wanted.name.now; create = c.in-Some.wanted.create; strict = c.in-Some.wanted.strict; desk = c.in-Some.wanted.desk } in
     let input : Inlet = record { left = g.S.Source.left c.args.input.now; budget = g.S.Source.budget c.args.input.now; faults = g.S.Source.faults c.args.input.now } in
-    let P : Status → Type 0 = λ status. (status ≡ Memory) ⊎ Due (given words index names games script (meanings (λ b. (goal.TreeView-dyn g (b.vtable, b.value)).rows b.value) (λ b. (goal.TreeView-dyn g (b.vtable, b.value)).told b.value) c.args.views.now.items)) status in
+    let P : Status → Type 0 = λ status. (status ≡ Memory) ⊎ Due (given words index names games (g.F.Files.seen c.args.files.now).fresh script (meanings (λ b. (goal.TreeView-dyn g (b.vtable, b.value)).rows b.value) (λ b. (goal.TreeView-dyn g (b.vtable, b.value)).told b.value) c.args.views.now.items)) status in
     subst P (sym c.from.ensures)
-    (due_of (given words index names games script (meanings (λ b. (goal.TreeView-dyn g (b.vtable, b.value)).rows b.value) (λ b. (goal.TreeView-dyn g (b.vtable, b.value)).told b.value) c.args.views.now.items)) (g.K.Sink.taken c.args.out.now) (g.K.Sink.taken c.write_opening.new.out) input input (around (g.F.Files.seen c.open.new.files) (meanings (λ b. (goal.TreeView-dyn g (b.vtable, b.value)).rows b.value) (λ b. (goal.TreeView-dyn g (b.vtable, b.value)).told b.value) c.args.views.now.items) none_told (meanings (λ b. (goal.TreeView-dyn g (b.vtable, b.value)).rows b.value) (λ b. (goal.TreeView-dyn g (b.vtable, b.value)).told b.value) c.args.views.now.items)) (status_of c.in-Err-write_opening.stop) _ _ _ _ _ _
+    (due_of (given words index names games (g.F.Files.seen c.args.files.now).fresh script (meanings (λ b. (goal.TreeView-dyn g (b.vtable, b.value)).rows b.value) (λ b. (goal.TreeView-dyn g (b.vtable, b.value)).told b.value) c.args.views.now.items)) (g.K.Sink.taken c.args.out.now) (g.K.Sink.taken c.write_opening.new.out) input input (around (g.F.Files.seen c.open.new.files) (meanings (λ b. (goal.TreeView-dyn g (b.vtable, b.value)).rows b.value) (λ b. (goal.TreeView-dyn g (b.vtable, b.value)).told b.value) c.args.views.now.items) none_told (meanings (λ b. (goal.TreeView-dyn g (b.vtable, b.value)).rows b.value) (λ b. (goal.TreeView-dyn g (b.vtable, b.value)).told b.value) c.args.views.now.items)) (status_of c.in-Err-write_opening.stop) _ _ _ _ _ _
     (line_session words index names games script (meanings (λ b. (goal.TreeView-dyn g (b.vtable, b.value)).rows b.value) (λ b. (goal.TreeView-dyn g (b.vtable, b.value)).told b.value) c.args.views.now.items) (g.F.Files.seen c.args.files.now) (g.F.Files.seen c.open.new.files) wanted c.in-Ok.opened.0 c.in-Ok.opened.1 c.games.result _ _ input c.in-Err-write_opening.stop _ _
     (sym c.in-Some.ensures.read) c.in-Ok.ensures.opens c.games.ensures.games c.in-Err-write_opening.ensures.halted c.open.ensures.contents c.in-Err-write_opening.ensures.causes.why i n told)
     (why_line c.in-Err-write_opening.stop _ _ _ _ _ c.in-Err-write_opening.ensures.causes.why)
@@ -80,7 +80,7 @@ returns-in-Ok-run_script-clause-due g c = λ index names games script i n told l
     let wanted : Wanted (List ℕ) = record { name = c.in-Some.wanted.name.now; create = c.in-Some.wanted.create; strict = c.in-Some.wanted.strict; desk = c.in-Some.wanted.desk } in
     let input : Inlet = record { left = g.S.Source.left c.args.input.now; budget = g.S.Source.budget c.args.input.now; faults = g.S.Source.faults c.args.input.now } in
     let input' : Inlet = record { left = g.S.Source.left c.run_script.new.input; budget = g.S.Source.budget c.run_script.new.input; faults = g.S.Source.faults c.run_script.new.input } in
-    due_of (given (map string_bytes c.args.words.now) index names games script (meanings (λ b. (goal.TreeView-dyn g (b.vtable, b.value)).rows b.value) (λ b. (goal.TreeView-dyn g (b.vtable, b.value)).told b.value) c.args.views.now.items)) (g.K.Sink.taken c.args.out.now) (g.K.Sink.taken c.run_script.new.out) input input' (around (g.F.Files.seen c.run_script.new.files) (meanings (λ b. (goal.TreeView-dyn g (b.vtable, b.value)).rows b.value) (λ b. (goal.TreeView-dyn g (b.vtable, b.value)).told b.value) c.args.views.now.items) none_told (meanings (λ b. (goal.TreeView-dyn g (b.vtable, b.value)).rows b.value) (λ b. (goal.TreeView-dyn g (b.vtable, b.value)).told b.value) (with_items c.args.views.now c.run_script.new.views).items)) Done _ _ _ _ _ _
+    due_of (given (map string_bytes c.args.words.now) index names games (g.F.Files.seen c.args.files.now).fresh script (meanings (λ b. (goal.TreeView-dyn g (b.vtable, b.value)).rows b.value) (λ b. (goal.TreeView-dyn g (b.vtable, b.value)).told b.value) c.args.views.now.items)) (g.K.Sink.taken c.args.out.now) (g.K.Sink.taken c.run_script.new.out) input input' (around (g.F.Files.seen c.run_script.new.files) (meanings (λ b. (goal.TreeView-dyn g (b.vtable, b.value)).rows b.value) (λ b. (goal.TreeView-dyn g (b.vtable, b.value)).told b.value) c.args.views.now.items) none_told (meanings (λ b. (goal.TreeView-dyn g (b.vtable, b.value)).rows b.value) (λ b. (goal.TreeView-dyn g (b.vtable, b.value)).told b.value) (with_items c.args.views.now c.run_script.new.views).items)) Done _ _ _ _ _ _
     (whole_session (map string_bytes c.args.words.now) index names games script (meanings (λ b. (goal.TreeView-dyn g (b.vtable, b.value)).rows b.value) (λ b. (goal.TreeView-dyn g (b.vtable, b.value)).told b.value) c.args.views.now.items) (g.F.Files.seen c.args.files.now) (g.F.Files.seen c.open.new.files) (g.F.Files.seen c.run_script.new.files) (meanings (λ b. (goal.TreeView-dyn g (b.vtable, b.value)).rows b.value) (λ b. (goal.TreeView-dyn g (b.vtable, b.value)).told b.value) (with_items c.args.views.now c.run_script.new.views).items) wanted c.in-Ok.opened.0 c.in-Ok.opened.1 c.games.result _ (g.K.Sink.taken c.write_opening.new.out) _ input input'
     (sym c.in-Some.ensures.read) c.in-Ok.ensures.opens (meanings_few (λ b. (goal.TreeView-dyn g (b.vtable, b.value)).rows b.value) (λ b. (goal.TreeView-dyn g (b.vtable, b.value)).told b.value) c.args.views.now.items c.requires.few) _ _ (ap (λ l. meanings (λ b. (goal.TreeView-dyn g (b.vtable, b.value)).rows b.value) (λ b. (goal.TreeView-dyn g (b.vtable, b.value)).told b.value) l) c.as_mut_slice.ensures.value) (ap (λ l. meanings (λ b. (goal.TreeView-dyn g (b.vtable, b.value)).rows b.value) (λ b. (goal.TreeView-dyn g (b.vtable, b.value)).told b.value) l) (sym (with_items_is c.args.views.now c.run_script.new.views (c.run_script.ensures.number ∙ (ap (λ l. length l) c.as_mut_slice.ensures.value ∙ sym c.args.views.now.ok.0))))) c.games.ensures.games c.in_default-write_opening.ensures.written c.in-Ok-run_script.ensures.all i n told left)
     tt no_files no_input no_output
@@ -99,7 +99,7 @@ returns-clause-due g c = λ index names games script i n told left no_files no_i
     let wanted : Wanted (List ℕ) = record { name = c.in-Some.wanted.name.now; create = c.in-Some.wanted.create; strict = c.in-Some.wanted.strict; desk = c.in-Some.wanted.desk } in
     let input : Inlet = record { left = g.S.Source.left c.args.input.now; budget = g.S.Source.budget c.args.input.now; faults = g.S.Source.faults c.args.input.now } in
     let input' : Inlet = record { left = g.S.Source.left c.run_script.new.input; budget = g.S.Source.budget c.run_script.new.input; faults = g.S.Source.faults c.run_script.new.input } in
-    due_of (given (map string_bytes c.args.words.now) index names games script (meanings (λ b. (goal.TreeView-dyn g (b.vtable, b.value)).rows b.value) (λ b. (goal.TreeView-dyn g (b.vtable, b.value)).told b.value) c.args.views.now.items)) (g.K.Sink.taken c.args.out.now) (g.K.Sink.taken c.run_script.new.out) input input' (around (g.F.Files.seen c.run_script.new.files) (meanings (λ b. (goal.TreeView-dyn g (b.vtable, b.value)).rows b.value) (λ b. (goal.TreeView-dyn g (b.vtable, b.value)).told b.value) c.args.views.now.items) none_told (meanings (λ b. (goal.TreeView-dyn g (b.vtable, b.value)).rows b.value) (λ b. (goal.TreeView-dyn g (b.vtable, b.value)).told b.value) (with_items c.args.views.now c.run_script.new.views).items)) c.in-Err-run_script.status _ _ _ _ _ _
+    due_of (given (map string_bytes c.args.words.now) index names games (g.F.Files.seen c.args.files.now).fresh script (meanings (λ b. (goal.TreeView-dyn g (b.vtable, b.value)).rows b.value) (λ b. (goal.TreeView-dyn g (b.vtable, b.value)).told b.value) c.args.views.now.items)) (g.K.Sink.taken c.args.out.now) (g.K.Sink.taken c.run_script.new.out) input input' (around (g.F.Files.seen c.run_script.new.files) (meanings (λ b. (goal.TreeView-dyn g (b.vtable, b.value)).rows b.value) (λ b. (goal.TreeView-dyn g (b.vtable, b.value)).told b.value) c.args.views.now.items) none_told (meanings (λ b. (goal.TreeView-dyn g (b.vtable, b.value)).rows b.value) (λ b. (goal.TreeView-dyn g (b.vtable, b.value)).told b.value) (with_items c.args.views.now c.run_script.new.views).items)) c.in-Err-run_script.status _ _ _ _ _ _
     (part_session (map string_bytes c.args.words.now) index names games script (meanings (λ b. (goal.TreeView-dyn g (b.vtable, b.value)).rows b.value) (λ b. (goal.TreeView-dyn g (b.vtable, b.value)).told b.value) c.args.views.now.items) (g.F.Files.seen c.args.files.now) (g.F.Files.seen c.open.new.files) (g.F.Files.seen c.run_script.new.files) (meanings (λ b. (goal.TreeView-dyn g (b.vtable, b.value)).rows b.value) (λ b. (goal.TreeView-dyn g (b.vtable, b.value)).told b.value) (with_items c.args.views.now c.run_script.new.views).items) wanted c.in-Ok.opened.0 c.in-Ok.opened.1 c.games.result _ (g.K.Sink.taken c.write_opening.new.out) _ input input' c.in-Err-run_script.status
     (sym c.in-Some.ensures.read) c.in-Ok.ensures.opens (meanings_few (λ b. (goal.TreeView-dyn g (b.vtable, b.value)).rows b.value) (λ b. (goal.TreeView-dyn g (b.vtable, b.value)).told b.value) c.args.views.now.items c.requires.few) _ _ (ap (λ l. meanings (λ b. (goal.TreeView-dyn g (b.vtable, b.value)).rows b.value) (λ b. (goal.TreeView-dyn g (b.vtable, b.value)).told b.value) l) c.as_mut_slice.ensures.value) (ap (λ l. meanings (λ b. (goal.TreeView-dyn g (b.vtable, b.value)).rows b.value) (λ b. (goal.TreeView-dyn g (b.vtable, b.value)).told b.value) l) (sym (with_items_is c.args.views.now c.run_script.new.views (c.run_script.ensures.number ∙ (ap (λ l. length l) c.as_mut_slice.ensures.value ∙ sym c.args.views.now.ok.0))))) c.games.ensures.games c.in_default-write_opening.ensures.written c.in-Err-run_script.ensures.part c.in-Err-run_script.ensures.kept.ends i n told left)
     (why_running c.in-Err-run_script.status _ (g.F.Files.faults c.open.new.files) _ _ _ _ (g.K.Sink.faults c.write_opening.new.out) _ c.open.ensures.counts c.in_default-write_opening.ensures.causes.none_fell.output c.in-Err-run_script.ensures.kept.why)
@@ -113,7 +113,7 @@ returns-clause-choices g c =
 
 pub returns-in-Err-write_opening-clause-asks : goal.returns-in-Err-write_opening-clause-asks
 returns-in-Err-write_opening-clause-asks g c = λ index names games script i n told left.
-    asks_opening (given (map string_bytes c.args.words.now) index names games script (meanings (λ b. (goal.TreeView-dyn g (b.vtable, b.value)).rows b.value) (λ b. (goal.TreeView-dyn g (b.vtable, b.value)).told b.value) c.args.views.now.items)) _ _ (g.F.Files.seen c.args.files.now).index i c.open.ensures.asks
+    asks_opening (given (map string_bytes c.args.words.now) index names games (g.F.Files.seen c.args.files.now).fresh script (meanings (λ b. (goal.TreeView-dyn g (b.vtable, b.value)).rows b.value) (λ b. (goal.TreeView-dyn g (b.vtable, b.value)).told b.value) c.args.views.now.items)) _ _ (g.F.Files.seen c.args.files.now).index i c.open.ensures.asks
 
 pub returns-in-Ok-run_script-clause-asks : goal.returns-in-Ok-run_script-clause-asks
 returns-in-Ok-run_script-clause-asks g c = λ index names games script i n told left.

@@ -1,7 +1,6 @@
-use Rattle.std.proofs.Common.{rules, ◌+◌, ◌∙◌, ap, subst, List, [], ◌∷◌}
-use Rattle.std.proofs.lemmas.List.{length_push}
+use Rattle.std.proofs.Common.{rules, subst, List}
 use Rattle.pos_index.specs.declared.hit.Hit.{Hit}
-use Rattle.pos_index.specs.Keeping.{AreListed, Listed, rows_seen}
+use Rattle.pos_index.specs.Keeping.{AreListed, rows_seen}
 use Rattle.pos_index.proofs.SeenLemmas.{board_kept, pushed_board}
 use Rattle.pos_index.proofs.lists.Lists.add_board.Goals as goal
 

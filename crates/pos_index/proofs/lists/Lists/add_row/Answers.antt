@@ -1,4 +1,4 @@
-use Rattle.std.proofs.Common.{rules, ◌∙◌, ap, subst, List, ℕ}
+use Rattle.std.proofs.Common.{rules, subst, List, ℕ}
 use Rattle.pos_index.specs.Keeping.{AreListed, rows_seen}
 use Rattle.pos_index.proofs.SeenLemmas.{pushed_row, row_kept}
 use Rattle.pos_index.proofs.lists.Lists.add_row.Goals as goal

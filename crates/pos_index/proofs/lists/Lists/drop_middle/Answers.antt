@@ -5,7 +5,7 @@ use Rattle.std.proofs.lemmas.List.Elements.{All-drop, All-take}
 use Rattle.pos_index.specs.declared.hit.Hit.{Hit}
 use Rattle.pos_index.specs.Keeping.{AreListed, Listed, row_in, rows_seen, with_row}
 use Rattle.pos_index.proofs.ListedLemmas.{written_back}
-use Rattle.pos_index.proofs.SeenLemmas.{AreSeen, all_known, game_there, middle_kept, row_length, with_rows}
+use Rattle.pos_index.proofs.SeenLemmas.{all_known, game_there, middle_kept, row_length, with_rows}
 use Rattle.pos_index.proofs.lists.Lists.drop_middle.Goals as goal
 
 pub index-requires : goal.index-requires

@@ -1,5 +1,5 @@
-use Rattle.std.proofs.Common.{rules, ◌≡◌, ◌++◌, ◌∙◌, ap, [], ◌∷◌}
-use Rattle.pos_index.specs.Keeping.{Listed, rows_seen}
+use Rattle.std.proofs.Common.{rules, ◌∙◌, ap}
+use Rattle.pos_index.specs.Keeping.{Listed}
 use Rattle.pos_index.proofs.SeenLemmas.{pop_kept, with_rows}
 use Rattle.pos_index.proofs.lists.Lists.pop_row.Goals as goal
 

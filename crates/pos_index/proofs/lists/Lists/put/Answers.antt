@@ -1,8 +1,7 @@
-use Rattle.std.proofs.Common.{rules, ◌≡◌, ◌<◌, ◌++◌, ◌∷◌, ◌∙◌, ap, arith, length, List, [], ℕ}
+use Rattle.std.proofs.Common.{rules, ◌<◌, ◌++◌, ◌∷◌, ◌∙◌, ap, arith, length, List, [], ℕ}
 use Rattle.std.proofs.lemmas.List.{get_or_default, length-set}
-use Rattle.pos_index.specs.declared.spot.Spot.{Spot}
 use Rattle.pos_index.specs.Keeping.{Listed, row_in, rows_seen, with_row}
-use Rattle.pos_index.proofs.SeenLemmas.{AreSeen, length-seen, put_kept, with_rows}
+use Rattle.pos_index.proofs.SeenLemmas.{length-seen, put_kept, with_rows}
 use Rattle.pos_index.proofs.lists.Lists.put.Goals as goal
 
 pub index_mut-requires : goal.index_mut-requires

@@ -1,8 +1,7 @@
 use Rattle.std.proofs.Common.{◌≡◌, ◌<◌, ◌∙◌, ap, arith, get_or, length, set, subst, sym, take, List, ℕ, []}
 use Rattle.std.proofs.lemmas.List.{get_or_default, length-set}
-use Rattle.pos_index.specs.declared.hit.Hit.{Hit}
 use Rattle.pos_index.specs.Keeping.{AreListed, Listed, next_set, row_in, rows_seen, spot_in, times, with_row}
-use Rattle.pos_index.proofs.SeenLemmas.{AreSeen, game_there, next_kept, row_length, spot_board, spot_known, with_rows}
+use Rattle.pos_index.proofs.SeenLemmas.{game_there, next_kept, row_length, spot_board, spot_known, with_rows}
 use Rattle.pos_index.proofs.lists.Lists.set_next.Goals as goal
 
 pub index-requires : goal.index-requires

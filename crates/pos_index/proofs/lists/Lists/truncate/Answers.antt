@@ -5,7 +5,7 @@ use Rattle.std.proofs.lemmas.List.Elements.{All-drop}
 use Rattle.pos_index.specs.declared.hit.Hit.{Hit}
 use Rattle.pos_index.specs.Keeping.{AreListed, Listed, row_in, rows_seen, with_row}
 use Rattle.pos_index.proofs.ListedLemmas.{written_back}
-use Rattle.pos_index.proofs.SeenLemmas.{AreSeen, all_known, game_there, lasts_kept, own_length, taken_few, with_rows}
+use Rattle.pos_index.proofs.SeenLemmas.{all_known, game_there, lasts_kept, own_length, taken_few, with_rows}
 use Rattle.pos_index.proofs.lists.Lists.truncate.Goals as goal
 
 pub index-requires : goal.index-requires

@@ -1,5 +1,4 @@
-use Rattle.std.proofs.Common.{rules, ◌≡◌, ◌<◌, ◌∙◌, ℕ, Some, arith, ap, sym, length, slice_get, slice_index_or, List, []}
-use Rattle.std.proofs.lemmas.List.{get_or_default}
+use Rattle.std.proofs.Common.{rules, ◌≡◌, ◌<◌, ◌∙◌, ℕ, Some, arith, ap, sym, length, slice_get, List}
 use Rattle.pos_index.specs.declared.spot.Spot.{Spot}
 use Rattle.pos_index.specs.Hits.{Place}
 use Rattle.pos_index.specs.Keeping.{row_in, spot_in}
